@@ -1,0 +1,3 @@
+pub mod Faces
+pub mod Refusals
+pub mod Worked

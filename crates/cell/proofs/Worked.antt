@@ -1,0 +1,62 @@
+-- Document 01's rows on the limits, worked out from the definitions: 2 ^ 40 passes and the next f64 refuses, 256 vertices pass and 257 refuse, 0 faces need 0 corners.
+use mathlib.Core.Path.{_≡_, refl}
+use mathlib.Core.Bool.{true, false}
+use mathlib.Core.List.{[], _∷_}
+use lib.ListN.{replicate}
+use lib.Ieee.{nan, inf, binary64, ofBits, le}
+use Rattle.floats.specs.F64.{zero64}
+use Rattle.floats.specs.Pick.{magnitudeOf}
+use Rattle.places.specs.Stored.{inThrees}
+use Rattle.cell.specs.Refusals.{wild, sizeRefused, endsRefused}
+
+-- ---- the numbers
+largest-passes : wild (ofBits binary64 0x4270_0000_0000_0000) ≡ false
+unfolding ofBits wild magnitudeOf le
+largest-passes = refl
+
+next-refuses : wild (ofBits binary64 0x4270_0000_0000_0001) ≡ true
+unfolding ofBits wild magnitudeOf le
+next-refuses = refl
+
+-- −2 ^ 40, and the next f64 below it
+least-passes : wild (ofBits binary64 0xc270_0000_0000_0000) ≡ false
+unfolding ofBits wild magnitudeOf le
+least-passes = refl
+
+below-refuses : wild (ofBits binary64 0xc270_0000_0000_0001) ≡ true
+unfolding ofBits wild magnitudeOf le
+below-refuses = refl
+
+minus-zero-passes : wild (ofBits binary64 0x8000_0000_0000_0000) ≡ false
+unfolding ofBits wild magnitudeOf le
+minus-zero-passes = refl
+
+nan-refuses : wild nan ≡ true
+unfolding wild magnitudeOf le
+nan-refuses = refl
+
+infinity-refuses : wild (inf false) ≡ true
+unfolding ofBits wild magnitudeOf le
+infinity-refuses = refl
+
+minus-infinity-refuses : wild (inf true) ≡ true
+unfolding ofBits wild magnitudeOf le
+minus-infinity-refuses = refl
+
+-- ---- the vertices: 768 coordinates are 256 of them
+most-pass : sizeRefused (replicate 768 zero64) [] [] ≡ false
+unfolding sizeRefused inThrees
+most-pass = refl
+
+one-more-refuses : sizeRefused (replicate 771 zero64) [] [] ≡ true
+unfolding sizeRefused inThrees
+one-more-refuses = refl
+
+-- ---- 0 faces need 0 corners
+no-face-passes : endsRefused [] [] ≡ false
+unfolding endsRefused
+no-face-passes = refl
+
+corner-refuses : endsRefused (0 ∷ []) [] ≡ true
+unfolding endsRefused
+corner-refuses = refl

@@ -1,0 +1,81 @@
+-- What is refused, as document 01's table has it: a number and what it is refused for, and the first row that applies decides.
+use mathlib.Core.Path.{_≡_}
+use mathlib.Core.Bool.{Bool, not, _||_}
+use mathlib.Core.List.{List, [], _∷_}
+use Prim.Native.Nat.{ℕ, _%_, _≤_}
+use lib.Dec.{T, leb, ltb, eqb}
+use lib.ListN.{length}
+use lib.Ieee.{Float, binary64, ofBits, le}
+use Rattle.places.specs.Loops.{pick, anyOf}
+use Rattle.floats.specs.Pick.{magnitudeOf}
+use Rattle.flat.specs.Points.{verticesOf, Inside}
+use Rattle.cell.specs.Faces.{facesOf, rises}
+
+-- the number of the first row that applies, and 0 where none does
+unfoldable pub firstRow : List (ℕ × Bool) → ℕ
+firstRow [] = 0
+firstRow (row ∷ rows) =
+    let rest = firstRow rows in
+    pick (row .1) (row .0) rest
+
+-- 2 ^ 40, the largest magnitude
+abbrev pub limit : Float
+limit = ofBits binary64 0x4270_0000_0000_0000
+
+-- a number is NaN, infinite or above 2 ^ 40 in magnitude; −0 and 2 ^ 40 itself are not
+unfoldable pub wild : Float → Bool
+wild x = not (le (magnitudeOf x) limit)
+
+-- a number is not below n
+abbrev pub notBelow : ℕ → ℕ → Bool
+notBelow n c = leb n c
+
+-- a face has no corners
+unfoldable pub isEmpty : List ℕ → Bool
+isEmpty face = eqb (length face) 0
+
+-- ---- the rows for a cell
+-- 1 size: coordinates not in threes, 0 or over 256 vertices, over 256 faces, over 2,048 corners
+unfoldable pub sizeRefused : List Float → List ℕ → List ℕ → Bool
+sizeRefused coords corners ends =
+    not (eqb (length coords % 3) 0)
+    || (eqb (length (verticesOf coords)) 0
+    || (ltb 256 (length (verticesOf coords))
+    || (ltb 256 (length ends)
+    || ltb 2048 (length corners))))
+
+-- 2 number: one of the numbers is wild
+unfoldable pub numberRefused : List Float → Bool
+numberRefused xs = anyOf wild xs
+
+-- 3 ends: they fall, or the last is not the corner count
+unfoldable pub endsRefused : List ℕ → List ℕ → Bool
+endsRefused corners ends = not (rises 0 ends (length corners))
+
+-- 4 index: one of the numbers is not below n
+unfoldable pub indexRefused : ℕ → List ℕ → Bool
+indexRefused n cs = anyOf (notBelow n) cs
+
+-- 5 empty face: any face of 0 corners
+unfoldable pub emptyRefused : List ℕ → List ℕ → Bool
+emptyRefused corners ends = anyOf isEmpty (facesOf corners ends)
+
+-- why a cell is refused, 0 where it is not: `query` are query values, judged with the coordinates, and `asked` the numbers of faces that are asked for
+unfoldable pub refusalOf : List Float → List ℕ → List ℕ → List Float → List ℕ → ℕ
+refusalOf coords corners ends query asked =
+    firstRow (
+    (1, sizeRefused coords corners ends)
+    ∷ (2, numberRefused coords || numberRefused query)
+    ∷ (3, endsRefused corners ends)
+    ∷ (4, indexRefused (length (verticesOf coords)) corners || indexRefused (length ends) asked)
+    ∷ [])
+
+-- what is known of a cell that is not refused, as the rooms want it
+pub record Sound (coords : List Float) (corners ends : List ℕ) : Type 0 where
+  pub threes : length coords % 3 ≡ 0
+  pub some : 1 ≤ length (verticesOf coords)
+  pub few : length (verticesOf coords) ≤ 256
+  pub few-faces : length ends ≤ 256
+  pub few-corners : length corners ≤ 2048
+  pub ordered : T (rises 0 ends (length corners))
+  pub inside : Inside (verticesOf coords) corners

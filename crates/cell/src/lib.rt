@@ -1,0 +1,171 @@
+// A cell: its description, its faces, and why it is refused.
+ghost use mathlib.Core.Path.{_≡_};
+ghost use mathlib.Core.Bool.{_||_};
+ghost use Prim.Native.Nat.{ℕ, _<_, _≤_};
+ghost use mathlib.Core.List.{[], _∷_};
+ghost use lib.ListN.{length, getD};
+ghost use lib.Seq.{slice};
+ghost use lib.Dec.{T};
+ghost use Rattle.cell.specs.Faces.{facesOf, rises};
+ghost use Rattle.cell.specs.Refusals.{wild, sizeRefused, numberRefused, endsRefused, indexRefused, emptyRefused, refusalOf};
+
+// What is known of a cell's shape.
+pub enum Convexity {
+    Convex,
+    Concave,
+    Unknown,
+}
+
+// A cell beside its lists: how many vertices, corners and faces they hold, and what is known of its shape.
+pub struct Cell {
+    pub vertices: usize,
+    pub corners: usize,
+    pub faces: usize,
+    pub convexity: Convexity,
+}
+
+// A face is shown as its own stretch of the lent corner list.
+pub fn face(corners: &[u32], start: usize, end: usize) -> &[u32]
+    requires { ⌜ (start ≤ end) × (end ≤ length (now corners)) ⌝ }
+    ensures { λ r. ⌜ now r ≡ slice start end (now (corners .entry)) ⌝ }
+{
+    &corners[start..end]
+}
+
+// Where face k starts: at the end before it, at 0 for the first.
+pub fn start(ends: &[u32], k: usize) -> usize
+    requires { ⌜ k < length (now ends) ⌝ }
+    ensures { λ r. ⌜ r ≡ getD (0 ∷ now (ends .entry)) k 0 ⌝ }
+{
+    if k == 0 {
+        return 0;
+    }
+    places::corner(ends, k - 1)
+}
+
+// The face with the number k.
+pub fn face_by_number<'a>(corners: &'a [u32], ends: &[u32], k: usize) -> &'a [u32]
+    requires { ⌜ T (rises 0 (now ends) (length (now corners))) × (k < length (now ends)) ⌝ }
+    ensures { λ r. ⌜ now r ≡ getD (facesOf (now (corners .entry)) (now (ends .entry))) k [] ⌝ }
+{
+    face(corners, start(ends, k), places::corner(ends, k))
+}
+
+// A number that is NaN, infinite or above 2^40 in magnitude.
+pub fn is_wild(x: f64) -> bool
+    ensures { λ r. ⌜ r ≡ wild x ⌝ }
+{
+    !(floats::magnitude(x) <= 1099511627776.0)
+}
+
+// Refusal 1: coordinates not in threes, 0 or over 256 vertices, over 256 faces, over 2,048 corners.
+pub fn size_refused(coords: &[f64], corners: &[u32], ends: &[u32]) -> bool
+    ensures { λ r. ⌜ r ≡ sizeRefused (now (coords .entry)) (now (corners .entry)) (now (ends .entry)) ⌝ }
+{
+    let n = coords.len();
+    if n % 3 != 0 {
+        return true;
+    }
+    if n == 0 {
+        return true;
+    }
+    if n > 768 {
+        return true;
+    }
+    if ends.len() > 256 {
+        return true;
+    }
+    corners.len() > 2048
+}
+
+// Refusal 2.
+pub fn number_refused(xs: &[f64]) -> bool
+    ensures { λ r. ⌜ r ≡ numberRefused (now (xs .entry)) ⌝ }
+{
+    let n = xs.len();
+    let mut i = 0;
+    while i < n {
+        if is_wild(places::num(xs, i)) {
+            return true;
+        }
+        i += 1;
+    }
+    false
+}
+
+// Refusal 3: the ends fall, or the last is not the corner count.
+pub fn ends_refused(corners: &[u32], ends: &[u32]) -> bool
+    ensures { λ r. ⌜ r ≡ endsRefused (now (corners .entry)) (now (ends .entry)) ⌝ }
+{
+    let n = ends.len();
+    let mut start = 0;
+    let mut k = 0;
+    while k < n {
+        let end = places::corner(ends, k);
+        if end < start {
+            return true;
+        }
+        start = end;
+        k += 1;
+    }
+    start != corners.len()
+}
+
+// Refusal 4: one of the numbers is not below n.
+pub fn index_refused(n: usize, cs: &[u32]) -> bool
+    ensures { λ r. ⌜ r ≡ indexRefused n (now (cs .entry)) ⌝ }
+{
+    let m = cs.len();
+    let mut i = 0;
+    while i < m {
+        if places::corner(cs, i) >= n {
+            return true;
+        }
+        i += 1;
+    }
+    false
+}
+
+// Refusal 5: any face of 0 corners, in a cell whose ends are in order.
+pub fn empty_refused(corners: &[u32], ends: &[u32]) -> bool
+    requires { ⌜ T (rises 0 (now ends) (length (now corners))) ⌝ }
+    ensures { λ r. ⌜ r ≡ emptyRefused (now (corners .entry)) (now (ends .entry)) ⌝ }
+{
+    let n = ends.len();
+    let mut start = 0;
+    let mut k = 0;
+    while k < n {
+        let end = places::corner(ends, k);
+        if start == end {
+            return true;
+        }
+        start = end;
+        k += 1;
+    }
+    false
+}
+
+// Why a cell is refused, 0 where it is not. Query values are judged with the coordinates; `asked` are numbers of faces that are asked for.
+pub fn refusal(coords: &[f64], corners: &[u32], ends: &[u32], query: &[f64], asked: &[u32]) -> u8
+    ensures { λ r. ⌜ r ≡ refusalOf (now (coords .entry)) (now (corners .entry)) (now (ends .entry)) (now (query .entry)) (now (asked .entry)) ⌝ }
+{
+    if size_refused(coords, corners, ends) {
+        return 1;
+    }
+    if number_refused(coords) {
+        return 2;
+    }
+    if number_refused(query) {
+        return 2;
+    }
+    if ends_refused(corners, ends) {
+        return 3;
+    }
+    if index_refused(coords.len() / 3, corners) {
+        return 4;
+    }
+    if index_refused(ends.len(), asked) {
+        return 4;
+    }
+    0
+}

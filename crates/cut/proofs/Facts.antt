@@ -1,0 +1,144 @@
+-- What holds of every cut. One induction over the definition, and what it gives: how many triangles there are, of which corners, and what sums over sides they keep.
+use mathlib.Core.Path.{_≡_, refl, _∙_, ap}
+use mathlib.Core.Bool.{Bool, true, false}
+use mathlib.Core.List.{List, [], _∷_, _++_, append-nil}
+use Prim.Native.Nat.{ℕ, zero, suc, _+_, _-_, _<_, _≤_}
+use native.Mathlib.Omega.{arith}
+use borrow.Author.Tests.{ltb-true, ltb-false}
+use lib.Dec.{ltb}
+use lib.ListN.{length, length-map}
+use lib.IntN.{ℤ, pos, negℤ, _+ℤ_, +ℤ-assoc, +ℤ-idl, +ℤ-idr}
+use Rattle.places.specs.Loops.{pick}
+use Rattle.places.specs.Lists.{Each, without}
+use Rattle.places.specs.Ring.{sides, earOf}
+use Rattle.places.specs.declared.Found.{Found}
+use Rattle.places.specs.declared.Found.the-variants.{At, Nothing}
+use Rattle.places.proofs.Lists.{length-without, each-nil, each-cons, each-without}
+use Rattle.places.proofs.Rings.{each-ear}
+use Rattle.exact.specs.Sides.{allSides}
+use Rattle.exact.specs.Space.{sum}
+use Rattle.exact.proofs.Poly.{var, con, _⊕_, ⊖, ring}
+use Rattle.exact.proofs.Balance.{Anti, sum-append, half}
+use Rattle.exact.proofs.Ears.{cut-one}
+use Rattle.exact.proofs.Alike.{Alike, sum-faces}
+use Rattle.exact.proofs.Volume.{Three}
+use Rattle.flat.specs.Points.{Point, Inside}
+use Rattle.choice.specs.Choice.{turnsAt}
+use Rattle.flat.specs.Flat.{pointOf, pointsOf}
+use Rattle.cut.specs.Cut.{Cut, nothing, emitted, stopped, clipped, cutWith, cutRing, choiceOf, cutIn, axisFor, directionFor, cutOf}
+use Rattle.choice.proofs.Choices.{choose-below, choose-none}
+
+-- ---- the induction
+-- a property of rings and their cuts, kept by each way of cutting
+pub record Kept (choose : List ℕ → Found) (P : List ℕ → Cut → Type 0) : Type 0 where
+  pub small : (r : List ℕ) → length r < 3 → P r nothing
+  pub three : (r : List ℕ) → length r ≡ 3 → P r (emitted r)
+  pub stop : (r : List ℕ) → 4 ≤ length r → choose r ≡ Nothing → P r (stopped r)
+  pub clip : (k : ℕ) (r : List ℕ) (c : Cut) → 4 ≤ length r → k < length r → P (without k r) c → P r (clipped k r c)
+
+module _ (choose : List ℕ → Found) (P : List ℕ → Cut → Type 0) (valid : (r : List ℕ) (k : ℕ) → choose r ≡ At k → k < length r) (p : Kept choose P) where
+  ring-all : (more : ℕ) (r : List ℕ) → length r ≡ more + 3 → P r (cutRing choose more r)
+  unfolding cutRing
+  ring-all zero r h = p .three r (omega arith)
+  ring-all (suc more) r h = go (choose r) refl (ring-all more)
+    where
+      go : (f : Found) → choose r ≡ f → ((s : List ℕ) → length s ≡ more + 3 → P s (cutRing choose more s)) → P r (cutWith f r (cutRing choose more))
+      go Nothing e ih = p .stop r (omega arith) e
+      go (At k) e ih =
+          let l : k < length r = valid r k e in
+          p .clip k r (cutRing choose more (without k r)) (omega arith) l (ih (without k r) (omega (arith, length-without k r l)))
+
+module _ (vs : List Point) (face : List ℕ) where
+  -- the choice that a face's rings are cut by
+  abbrev pub choice : List ℕ → Found
+  choice = choiceOf vs (axisFor vs face) (directionFor vs face)
+
+  valid : (r : List ℕ) (k : ℕ) → choice r ≡ At k → k < length r
+  unfolding choiceOf pointsOf
+  valid r k e = omega (arith, choose-below (pointsOf vs (axisFor vs face) r) (directionFor vs face) k e, length-map r (pointOf vs (axisFor vs face)))
+
+  pub cut-all : (P : List ℕ → Cut → Type 0) → Kept choice P → P face (cutOf vs face)
+  unfolding cutOf cutIn directionFor
+  cut-all P p = go (ltb (length face) 3) refl
+    where
+      go : (b : Bool) → ltb (length face) 3 ≡ b → P face (pick b nothing (cutIn vs (axisFor vs face) face))
+      go true e = p .small face (ltb-true (length face) 3 e)
+      go false e = ring-all choice P valid p (length face - 3) face (omega (arith, ltb-false (length face) 3 e))
+
+-- ---- how many: n − 2, or fewer with a ring of four or more left, of which no corner is chosen
+pub data Ends (choose : List ℕ → Found) (r : List ℕ) (c : Cut) : Type 0 where
+  few : length r < 3 → c .triangles ≡ [] → c .left ≡ [] → Ends choose r c
+  full : c .left ≡ [] → length (c .triangles) + 2 ≡ length r → Ends choose r c
+  short : 4 ≤ length (c .left) → choose (c .left) ≡ Nothing → length (c .triangles) + length (c .left) ≡ length r → Ends choose r c
+
+pub cut-ends : (vs : List Point) (face : List ℕ) → Ends (choice vs face) face (cutOf vs face)
+cut-ends vs face = cut-all vs face (Ends (choice vs face)) (record {
+  small = λ r h. few h refl refl;
+  three = λ r h. full refl (omega arith);
+  stop = λ r h e. short h e (omega arith);
+  clip = λ k r c h l q. more k r c h (length-without k r l) q;
+})
+  where
+    more : (k : ℕ) (r : List ℕ) (c : Cut) → 4 ≤ length r → length (without k r) ≡ length r - 1 → Ends (choice vs face) (without k r) c → Ends (choice vs face) r (clipped k r c)
+    more k r c h e (few l a b) = absurd (omega arith)
+    more k r c h e (full a b) = full a (omega arith)
+    more k r c h e (short a b d) = short a b (omega arith)
+
+-- n − 2 places are enough
+pub cut-room : (vs : List Point) (face : List ℕ) → length (cutOf vs face .triangles) ≤ length face - 2
+cut-room vs face = go (cut-ends vs face)
+  where
+    go : Ends (choice vs face) face (cutOf vs face) → length (cutOf vs face .triangles) ≤ length face - 2
+    go (few l a b) = omega (arith, ap length a)
+    go (full a b) = omega arith
+    go (short a b d) = omega arith
+
+-- ---- of which corners: each triangle has three, and what holds of the face's holds of them
+pub cut-threes : (vs : List Point) (face : List ℕ) → Each [] Three (cutOf vs face .triangles)
+unfolding earOf
+cut-threes vs face = cut-all vs face (λ r c. Each [] Three (c .triangles)) (record {
+  small = λ r h. each-nil;
+  three = λ r h. each-cons h each-nil;
+  stop = λ r h e. each-nil;
+  clip = λ k r c h l q. each-cons refl q;
+})
+
+pub cut-inside : (vs : List Point) (face : List ℕ) → Inside vs face → Each [] (Inside vs) (cutOf vs face .triangles)
+cut-inside vs face = cut-all vs face (λ r c. Inside vs r → Each [] (Inside vs) (c .triangles)) (record {
+  small = λ r h i. each-nil;
+  three = λ r h i. each-cons i each-nil;
+  stop = λ r h e i. each-nil;
+  clip = λ k r c h l q i. each-cons (each-ear k r l i) (q (each-without k r i));
+})
+
+-- ---- the triangles and the ring that is left have together the sides of the face, a side and its back taken off
+undo : (x : ℤ) → x +ℤ (negℤ x +ℤ pos 0) ≡ pos 0
+undo x = ring (x ∷ []) (var 0 ⊕ (⊖ (var 0) ⊕ con (pos 0))) (con (pos 0)) tt
+
+module _ (w : ℕ → ℕ → ℤ) (anti : Anti w) where
+  small-zero : (r : List ℕ) → length r < 3 → pos 0 ≡ sum w (sides r)
+  small-zero [] h = refl
+  small-zero (a ∷ []) h = rw (half (w a a) (anti a a))
+  small-zero (a ∷ b ∷ []) h = rw (anti b a, undo)
+  small-zero (a ∷ b ∷ c ∷ r) h = absurd (omega arith)
+
+  abbrev pub Same : List ℕ → Cut → Type 0
+  Same r c = sum w (allSides (c .triangles)) +ℤ sum w (sides (c .left)) ≡ sum w (sides r)
+
+  pub cut-keeps : (vs : List Point) (face : List ℕ) → Same face (cutOf vs face)
+  cut-keeps vs face = cut-all vs face Same (record {
+    small = small-zero;
+    three = λ r h. rw (append-nil (sides r)) (+ℤ-idr (sum w (sides r)));
+    stop = λ r h e. +ℤ-idl (sum w (sides r));
+    clip = λ k r c h l q. rw (sum-append w (sides (earOf k r)) (allSides (c .triangles)), +ℤ-assoc (sum w (sides (earOf k r))), q) (cut-one w anti k r l (omega arith));
+  })
+
+pub cut-alike : (vs : List Point) (face : List ℕ) → Alike (cutOf vs face .triangles ++ cutOf vs face .left ∷ []) (face ∷ [])
+cut-alike vs face = record {
+  sums = λ w anti. sum-faces w (cutOf vs face .triangles) (cutOf vs face .left ∷ []) ∙ rw (append-nil (sides (cutOf vs face .left)), append-nil (sides face)) (cut-keeps w anti vs face);
+}
+
+-- ---- where a ring is left no corner of it turns the way of the face
+pub stuck-turns : (vs : List Point) (face ring : List ℕ) → choice vs face ring ≡ Nothing → (k : ℕ) → k < length ring → turnsAt (pointsOf vs (axisFor vs face) ring) (directionFor vs face) k ≡ false
+unfolding choiceOf pointsOf
+stuck-turns vs face ring e k h = choose-none (pointsOf vs (axisFor vs face) ring) (directionFor vs face) e k (omega (arith, length-map ring (pointOf vs (axisFor vs face))))

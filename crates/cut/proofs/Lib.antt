@@ -1,0 +1,3 @@
+pub mod Going
+pub mod Facts
+pub mod Worked

@@ -1,0 +1,66 @@
+-- The cut of a face: its triangles in order, and the ring that is left. A ring is a list of vertex numbers, and so are its triangles; a corner's point is looked up.
+-- What the code's contracts cite, what the worked rows compute and what demand 3 speaks of is `cutOf`.
+use Prim.Native.Nat.{ℕ, zero, suc, _-_}
+use mathlib.Core.List.{List, [], _∷_}
+use lib.ListN.{length}
+use lib.Dec.{ltb}
+use lib.Ieee.{Float}
+use Rattle.places.specs.Loops.{pick}
+use Rattle.places.specs.Lists.{without}
+use Rattle.places.specs.Ring.{earOf}
+use Rattle.places.specs.declared.Found.{Found}
+use Rattle.places.specs.declared.Found.the-variants.{At, Nothing}
+use Rattle.flat.specs.Points.{Point, cornersOf}
+use Rattle.flat.specs.Flat.{newellOf, axisOf, pointsOf}
+use Rattle.choice.specs.Choice.{directionOf, chooseOf}
+
+pub record Cut : Type 0 where
+  pub triangles : List (List ℕ)
+  -- the ring at which the cutting stopped: none where it came to its end
+  pub left : List ℕ
+
+-- ---- a ring is cut, however the corner is chosen
+-- nothing; a ring of 3, emitted untested; no corner to cut: stop
+abbrev pub nothing : Cut
+nothing = record { triangles = []; left = [] }
+
+abbrev pub emitted : List ℕ → Cut
+emitted ring = record { triangles = ring ∷ []; left = [] }
+
+abbrev pub stopped : List ℕ → Cut
+stopped ring = record { triangles = []; left = ring }
+
+-- the triangle (before, corner, after) at place k, and then what the ring without that corner gives
+abbrev pub clipped : ℕ → List ℕ → Cut → Cut
+clipped k ring rest = record { triangles = earOf k ring ∷ rest .triangles; left = rest .left }
+
+abbrev pub cutWith : Found → List ℕ → (List ℕ → Cut) → Cut
+cutWith Nothing ring go = stopped ring
+cutWith (At k) ring go = clipped k ring (go (without k ring))
+
+-- a ring of 3 corners and `more`
+unfoldable pub cutRing : (List ℕ → Found) → ℕ → List ℕ → Cut
+cutRing choose zero ring = emitted ring
+cutRing choose (suc more) ring = cutWith (choose ring) ring (cutRing choose more)
+
+-- ---- a face is cut: the plane and the direction are those of the whole face, and are kept while the ring shrinks
+-- the corner of the ring that is cut off, seen in that plane
+unfoldable pub choiceOf : List Point → ℕ → Float → List ℕ → Found
+choiceOf vs axis dir ring = chooseOf (pointsOf vs axis ring) dir
+
+-- the face cut in that plane, by its own direction
+unfoldable pub cutIn : List Point → ℕ → List ℕ → Cut
+cutIn vs axis face = cutRing (choiceOf vs axis (directionOf (pointsOf vs axis face))) (length face - 3) face
+
+-- the axis that a face is seen along, and its direction
+unfoldable pub axisFor : List Point → List ℕ → ℕ
+axisFor vs face = axisOf (newellOf (cornersOf vs face))
+
+unfoldable pub directionFor : List Point → List ℕ → Float
+directionFor vs face = directionOf (pointsOf vs (axisFor vs face) face)
+
+-- under 3 corners: nothing
+unfoldable pub cutOf : List Point → List ℕ → Cut
+cutOf vs face =
+    let cut = cutIn vs (axisFor vs face) face in
+    pick (ltb (length face) 3) nothing cut

@@ -1,0 +1,180 @@
+// Cutting a face into triangles.
+ghost use mathlib.Core.Path.{_≡_};
+ghost use Prim.Native.Nat.{ℕ, _-_, _<_, _≤_};
+ghost use lib.ListN.{length, set};
+ghost use Rattle.places.specs.Lists.{removed};
+ghost use Rattle.places.specs.Ring.{earOf};
+ghost use Rattle.flat.specs.Points.{verticesOf, Inside};
+ghost use Rattle.choice.specs.Choice.{chooseOf};
+ghost use Rattle.flat.specs.Flat.{pointsOf};
+ghost use Rattle.cut.specs.Cut.{cutIn, cutOf};
+ghost use Rattle.cut.specs.Lent.{Stepped, Shown};
+
+// How many triangles a cut gave, and how many corners of the ring it left (none where it came to its end).
+pub struct Counts {
+    pub triangles: usize,
+    pub left: usize,
+}
+
+// What stands at place k goes, and what comes after it moves one place left.
+pub fn remove_number(ns: &mut [u32], k: usize)
+    requires { ⌜ k < length (now ns) ⌝ }
+    ensures { λ _. ⌜ now (ns .exit) ≡ removed k (now (ns .entry)) ⌝ }
+{
+    let last = ns.len() - 1;
+    let mut j = k;
+    while j < last {
+        ns[j] = ns[j + 1];
+        j += 1;
+    }
+}
+
+pub fn remove_point(ps: &mut [[f64; 2]], k: usize)
+    requires { ⌜ k < length (now ps) ⌝ }
+    ensures { λ _. ⌜ now (ps .exit) ≡ removed k (now (ps .entry)) ⌝ }
+{
+    let last = ps.len() - 1;
+    let mut j = k;
+    while j < last {
+        ps[j] = ps[j + 1];
+        j += 1;
+    }
+}
+
+// The triangle at place k of the ring is written to place t, and the corner goes from both lists.
+pub fn cut_at(ns: &mut [u32], ps: &mut [[f64; 2]], k: usize, out: &mut [[u32; 3]], t: usize)
+    requires { ⌜ (k < length (now ns)) × (k < length (now ps)) × (t < length (now out)) ⌝ }
+    ensures numbers { λ _. ⌜ now (ns .exit) ≡ removed k (now (ns .entry)) ⌝ }
+    ensures points { λ _. ⌜ now (ps .exit) ≡ removed k (now (ps .entry)) ⌝ }
+    ensures written { λ _. ⌜ now (out .exit) ≡ set (now (out .entry)) t (earOf k (now (ns .entry))) ⌝ }
+{
+    let n = ns.len();
+    let i = places::prev(k, n);
+    let j = places::next(k, n);
+    let ear = [ns[i], ns[k], ns[j]];
+    out[t] = ear;
+    remove_number(ns, k);
+    remove_point(ps, k);
+}
+
+// One cut, if there is a corner to cut.
+pub fn step(ns: &mut [u32], ps: &mut [[f64; 2]], dir: f64, out: &mut [[u32; 3]], t: usize) -> bool
+    requires { ⌜ (length (now ns) ≡ length (now ps)) × (t < length (now out)) ⌝ }
+    ensures { λ r. ⌜ Stepped (chooseOf (now (ps .entry)) dir) (now (ns .entry)) (now (ps .entry)) (now (out .entry)) t r (now (ns .exit)) (now (ps .exit)) (now (out .exit)) ⌝ }
+{
+    let f = choice::choose(ps, dir);
+    match f {
+        places::Found::Nothing => false,
+        places::Found::At(k) => {
+            cut_at(ns, ps, k, out, t);
+            true
+        }
+    }
+}
+
+// The numbers of a face, and the points of a ring's corners, are laid down in lists of their own.
+pub fn fill_numbers(face: &[u32], ns: &mut [u32])
+    requires { ⌜ length (now ns) ≡ length (now face) ⌝ }
+    ensures { λ _. ⌜ now (ns .exit) ≡ now (face .entry) ⌝ }
+{
+    let n = face.len();
+    let mut i = 0;
+    while i < n {
+        ns[i] = face[i];
+        i += 1;
+    }
+}
+
+pub fn fill_points(coords: &[f64], ring: &[u32], axis: usize, ps: &mut [[f64; 2]])
+    requires { ⌜ Inside (verticesOf (now coords)) (now ring) ⌝ }
+    requires { ⌜ length (now ps) ≡ length (now ring) ⌝ }
+    ensures { λ _. ⌜ now (ps .exit) ≡ pointsOf (verticesOf (now (coords .entry))) axis (now (ring .entry)) ⌝ }
+{
+    let n = ring.len();
+    let mut i = 0;
+    while i < n {
+        let p = flat::space::point_at(coords, ring, axis, i);
+        ps[i] = p;
+        i += 1;
+    }
+}
+
+// A ring of three corners or more is cut. Its points are laid down in ps; ns and ps are used up.
+fn cut_ring(
+    coords: &[f64],
+    axis: usize,
+    ns: &mut [u32],
+    ps: &mut [[f64; 2]],
+    out: &mut [[u32; 3]],
+) -> Counts
+    requires { ⌜ Inside (verticesOf (now coords)) (now ns) ⌝ }
+    requires { ⌜ (length (now ps) ≡ length (now ns)) × (3 ≤ length (now ns)) × (length (now ns) - 2 ≤ length (now out)) ⌝ }
+    ensures { λ r. ⌜ Shown (cutIn (verticesOf (now (coords .entry))) axis (now (ns .entry))) r (now (out .entry)) (now (out .exit)) ⌝ }
+{
+    fill_points(coords, ns, axis, ps);
+    let dir = choice::direction(ps);
+    let mut m = ns.len();
+    let mut t = 0;
+    while m > 3 {
+        if !step(&mut ns[..m], &mut ps[..m], dir, out, t) {
+            return Counts {
+                triangles: t,
+                left: m,
+            };
+        }
+        m -= 1;
+        t += 1;
+    }
+    let last = [ns[0], ns[1], ns[2]];
+    out[t] = last;
+    Counts {
+        triangles: t + 1,
+        left: 0,
+    }
+}
+
+// A face is cut in two lists that are lent for it.
+fn cut_in(
+    coords: &[f64],
+    face: &[u32],
+    ns: &mut [u32],
+    ps: &mut [[f64; 2]],
+    out: &mut [[u32; 3]],
+) -> Counts
+    requires { ⌜ Inside (verticesOf (now coords)) (now face) ⌝ }
+    requires { ⌜ (length (now ns) ≡ length (now face)) × (length (now ps) ≡ length (now face)) × (3 ≤ length (now face)) × (length (now face) - 2 ≤ length (now out)) ⌝ }
+    ensures { λ r. ⌜ Shown (cutOf (verticesOf (now (coords .entry))) (now (face .entry))) r (now (out .entry)) (now (out .exit)) ⌝ }
+{
+    let axis = flat::dominant_axis(flat::space::face_normal(coords, face));
+    fill_numbers(face, ns);
+    cut_ring(coords, axis, ns, ps, out)
+}
+
+// The arrays for the ring are no larger than the work: what is cleared before a cut stays small beside it.
+// A face is cut: its triangles are written to the front of out. The answer says how many, and how many corners are left if the cutting stopped short.
+pub fn cut(coords: &[f64], face: &[u32], out: &mut [[u32; 3]]) -> Counts
+    requires { ⌜ Inside (verticesOf (now coords)) (now face) ⌝ }
+    requires { ⌜ (length (now face) ≤ 2048) × (length (now face) - 2 ≤ length (now out)) ⌝ }
+    ensures { λ r. ⌜ Shown (cutOf (verticesOf (now (coords .entry))) (now (face .entry))) r (now (out .entry)) (now (out .exit)) ⌝ }
+{
+    let n = face.len();
+    if n < 3 {
+        return Counts {
+            triangles: 0,
+            left: 0,
+        };
+    }
+    if n <= 16 {
+        let mut ns = [0u32; 16];
+        let mut ps = [[0.0f64; 2]; 16];
+        return cut_in(coords, face, &mut ns[..n], &mut ps[..n], out);
+    }
+    if n <= 128 {
+        let mut ns = [0u32; 128];
+        let mut ps = [[0.0f64; 2]; 128];
+        return cut_in(coords, face, &mut ns[..n], &mut ps[..n], out);
+    }
+    let mut ns = [0u32; 2048];
+    let mut ps = [[0.0f64; 2]; 2048];
+    cut_in(coords, face, &mut ns[..n], &mut ps[..n], out)
+}

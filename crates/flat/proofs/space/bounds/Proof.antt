@@ -1,0 +1,26 @@
+use mathlib.Core.Path.{_≡_, refl, sym}
+use Prim.Native.Nat.{_-_}
+use lib.ListN.{length}
+use lib.Ieee.{div, ofBits, neg}
+use Rattle.places.proofs.Loops.{Taking, take-start, take-turn, take-end}
+use Rattle.places.proofs.Stored.{length-threes}
+use Rattle.flat.specs.Points.{verticesOf, widenOf, boundsOf}
+use mathlib.Core.List.{[]}
+use borrow.Author.Needs.{needs}
+use Rattle.flat.proofs.space.bounds.Statement.{statement}
+use Rattle.flat.proofs.space.bounds.Tie as tie
+
+pub bounds-spec : {M : Type 1} → statement M
+unfolding boundsOf div ofBits neg
+bounds-spec =
+    tie.close
+    (tie.spec
+    (λ coords n top b₀ i₀ b i. (n ≡ length (verticesOf coords)) × Taking (widenOf 3) (verticesOf coords) (boundsOf 3 (verticesOf coords)) i b)
+    (λ coords n top b₀ i₀ b i. n - i)
+    (λ c. (sym (length-threes (c .before .args .coords .now)), take-start refl))
+    (λ c κs. search needs)
+    (λ c κs. search needs)
+    (λ c. search needs)
+    (λ c. search needs)
+    (λ c. (c .before .before .before .loop .inv .0, take-turn [] (c .before .before .before .loop .inv .1) (search needs) (cc)))
+    (λ c. take-end (c .before .loop .inv .1) (search needs)))

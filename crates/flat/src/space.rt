@@ -1,0 +1,115 @@
+// Lists of points of space, stored in threes: a vertex, the Newell sums, the vertex centroid, the bounds.
+ghost use mathlib.Core.Path.{_≡_};
+ghost use Prim.Native.Nat.{ℕ, _<_, _≤_};
+ghost use lib.ListN.{length, getD};
+ghost use mathlib.Core.List.{[]};
+ghost use lib.IntN.{pos};
+ghost use lib.Ieee.{binary64, ofInt};
+ghost use Rattle.flat.specs.Points.{verticesOf, vertexOf, Inside, cornersOf, centroidOf, boundsOf};
+ghost use Rattle.flat.specs.Flat.{newellOf, pointOf};
+
+// The vertex with a number.
+pub fn vertex(coords: &[f64], v: usize) -> [f64; 3]
+    requires { ⌜ v < length (verticesOf (now coords)) ⌝ }
+    ensures { λ r. ⌜ r ≡ vertexOf (verticesOf (now (coords .entry))) v ⌝ }
+{
+    let i = v * 3;
+    [
+        places::num(coords, i),
+        places::num(coords, i + 1),
+        places::num(coords, i + 2),
+    ]
+}
+
+// The vertex at place i of a face.
+pub fn vertex_at(coords: &[f64], face: &[u32], i: usize) -> [f64; 3]
+    requires { ⌜ Inside (verticesOf (now coords)) (now face) ⌝ }
+    requires { ⌜ i < length (now face) ⌝ }
+    ensures { λ r. ⌜ r ≡ getD (cornersOf (verticesOf (now (coords .entry))) (now (face .entry))) i [] ⌝ }
+{
+    let v = places::corner(face, i);
+    vertex(coords, v)
+}
+
+// The same in the plane without an axis.
+pub fn point_at(coords: &[f64], ring: &[u32], axis: usize, i: usize) -> [f64; 2]
+    requires { ⌜ Inside (verticesOf (now coords)) (now ring) ⌝ }
+    requires { ⌜ i < length (now ring) ⌝ }
+    ensures { λ r. ⌜ r ≡ pointOf (verticesOf (now (coords .entry))) axis (getD (now (ring .entry)) i 0) ⌝ }
+{
+    crate::project2(vertex_at(coords, ring, i), axis)
+}
+
+// The Newell sums of a face.
+pub fn face_normal(coords: &[f64], face: &[u32]) -> [f64; 3]
+    requires { ⌜ Inside (verticesOf (now coords)) (now face) ⌝ }
+    ensures { λ r. ⌜ r ≡ newellOf (cornersOf (verticesOf (now (coords .entry))) (now (face .entry))) ⌝ }
+{
+    let mut s = [0.0, 0.0, 0.0];
+    let n = face.len();
+    let mut i = 0;
+    while i < n {
+        let a = vertex_at(coords, face, i);
+        let j = places::next(i, n);
+        let b = vertex_at(coords, face, j);
+        let t = crate::newell_side(a, b, s);
+        s = t;
+        i += 1;
+    }
+    s
+}
+
+// The Newell sums of a list of points.
+pub fn newell_normal(coords: &[f64]) -> [f64; 3]
+    ensures { λ r. ⌜ r ≡ newellOf (verticesOf (now (coords .entry))) ⌝ }
+{
+    let mut s = [0.0, 0.0, 0.0];
+    let n = coords.len() / 3;
+    let mut i = 0;
+    while i < n {
+        let a = vertex(coords, i);
+        let j = places::next(i, n);
+        let b = vertex(coords, j);
+        let t = crate::newell_side(a, b, s);
+        s = t;
+        i += 1;
+    }
+    s
+}
+
+// A count as a float.
+pub fn count(n: u16) -> f64
+    ensures { λ r. ⌜ r ≡ ofInt binary64 (pos n) ⌝ }
+{
+    n as f64
+}
+
+pub fn vertex_centroid(coords: &[f64]) -> [f64; 3]
+    requires { ⌜ length (now coords) ≤ 768 ⌝ }
+    ensures { λ r. ⌜ r ≡ centroidOf 3 (verticesOf (now (coords .entry))) ⌝ }
+{
+    let n = coords.len() / 3;
+    let mut s = [0.0, 0.0, 0.0];
+    let mut i = 0;
+    while i < n {
+        let t = crate::plus3(vertex(coords, i), s);
+        s = t;
+        i += 1;
+    }
+    crate::over3(s, count(n as u16))
+}
+
+pub fn bounds(coords: &[f64]) -> [[f64; 3]; 2]
+    ensures { λ r. ⌜ r ≡ boundsOf 3 (verticesOf (now (coords .entry))) ⌝ }
+{
+    let n = coords.len() / 3;
+    let top = 1.0 / 0.0;
+    let mut b = [[top, top, top], [-top, -top, -top]];
+    let mut i = 0;
+    while i < n {
+        let t = crate::widen3(vertex(coords, i), b);
+        b = t;
+        i += 1;
+    }
+    b
+}

@@ -1,0 +1,14 @@
+pub mod Nans
+pub mod Signs
+pub mod Picks
+pub mod Squares
+pub mod Newton
+pub mod Digits
+pub mod Rounded
+pub mod Reading
+pub mod Writing
+pub mod Steps
+pub mod Special
+pub mod Grid
+pub mod Nearest
+pub mod Worked

@@ -1,0 +1,200 @@
+-- `rootOf` gives the nearest value, for every number of the format above zero: no value of the format is nearer to the exact root (`correctly-rounded`).
+-- The exact root need not be a whole number of units, so distances to it are compared by squares: r is at least as near as y exactly when the root is not on y's side of their mid-point.
+use mathlib.Core.Path.{_≡_, refl, sym, ap, _∙_, subst}
+use mathlib.Core.Logic.{_⊎_, inl, inr, ⊎-elim}
+use Prim.Native.Nat.{ℕ, zero, suc, _+_, _-_, _*_, _/_, _%_, _^_, _≤_, _<_, compare, Ordering, Ordering·lt, Ordering·eq, Ordering·gt}
+use native.Mathlib.Nat.{le-div-iff-mul-le, le-trans, le-of-eq, le-of-lt, lt-of-lt-of-le, lt-of-le-of-lt, not-le-of-lt, eq-zero-or-pos, le-of-mul-le-mul-right, mul-assoc, mul-right-comm, mul-le-mul, mul-le-mul-right, mul-le-mul-left, mul-pos, mul-lt-mul-of-pos-right, lt-of-mul-lt-mul-right, div-mul-le-self, lt-div-mul-add}
+use native.Mathlib.Omega.{arith}
+use mathlib.Core.Bool.{false, not}
+use lib.Dec.{T, leb, eqb, isLe, isEq, leb→le, nleb→lt, eqb→eq, lit<}
+use lib.Pow.{pow-add, pow-pos, pow-mono, pow-lt}
+use lib.Ieee.{Float, nan, inf, fin, Format, binary32, binary64, prec, emax, low, up, down, size, nearest, units, fits}
+use lib.Ieee.Digits.{size-reaches, size-le}
+use lib.Ieee.Fits.{two, reach, two-le-pos, kept-lt, nearest-le}
+use lib.Ieee.Exact.{HasValue, units-val}
+use lib.Ieee.Positive.{positive, value-pos}
+use Rattle.floats.specs.Root.{floorRoot, roundRoot, rootOf}
+use Rattle.floats.proofs.Squares.{floor-root, sq-lt-back}
+use Rattle.floats.proofs.Rounded.{fromDigits, from-whole, InUnits, opened, not-zero}
+use Rattle.floats.proofs.Grid.{units-value, in-format, OnGrid, on-grid, has-units, gap}
+
+-- y units are no nearer to the root of n than r units are: where y is less, the mid-point of the two is at most the root, and where it is more, at least
+abbrev pub NoNearer : (n r y : ℕ) → Type 0
+NoNearer n r y = (y < r → (r + y) * (r + y) ≤ 4 * n) × (r < y → 4 * n ≤ (r + y) * (r + y))
+
+-- x is n units squared, `rootOf f x` is r units, and no value z of the format is nearer to the root. One with its sign set is further off than +0, so z has its sign clear.
+pub record NearestRoot (f : Format) (x : Float) (n r : ℕ) : Type 0 where
+  pub number : HasValue x false n (2 ^ low f * 2 ^ low f)
+  pub root : HasValue (rootOf f x) false r (2 ^ low f)
+  pub no-nearer : (z : Float) (y : ℕ) → T (fits f z) → HasValue z false y (2 ^ low f) → NoNearer n r y
+
+-- ---- what `nearest` picks
+abbrev Picked : (q a b r : ℕ) → Type 0
+Picked q a b r = ((r ≡ q) × (a ≤ b)) ⊎ ((r ≡ q + 1) × (b ≤ a))
+
+picked : (q a b : ℕ) → Picked q a b (nearest q (compare a b))
+picked q a b = go (compare a b) (leb→le a b) (nleb→lt a b) (eqb→eq a b)
+  where
+    suc-is : (q : ℕ) → suc q ≡ q + 1
+    suc-is q = omega arith
+
+    even : (q : ℕ) → q % 2 ≡ 0 → q + q % 2 ≡ q
+    even q h = omega arith
+
+    uneven : (q : ℕ) → 0 < q % 2 → q + q % 2 ≡ q + 1
+    uneven q h = omega arith
+
+    go : (o : Ordering) → (T (isLe o) → a ≤ b) → (T (not (isLe o)) → b < a) → (T (isEq o) → a ≡ b) → Picked q a b (nearest q o)
+    go Ordering·lt l g e = inl (refl, l tt)
+    go Ordering·eq l g e = ⊎-elim (λ z. inl (even q z, l tt)) (λ z. inr (uneven q z, le-of-eq (sym (e tt)))) (eq-zero-or-pos (q % 2))
+    go Ordering·gt l g e = inr (suc-is q, le-of-lt (g tt))
+
+-- ---- the two results, q times s and q + 1 times s, against a y that is not between them
+twice-square : (a : ℕ) → (a + a) * (a + a) ≡ 4 * (a * a)
+twice-square a = omega arith
+
+module _ (n q s y : ℕ) (lo : q * s * (q * s) ≤ n) (hi : n ≤ (q + 1) * s * ((q + 1) * s)) (clear : (y ≤ q * s) ⊎ ((q + 1) * s ≤ y)) where
+  mid : q * s + (q + 1) * s ≡ (2 * q + 1) * s
+  mid = omega arith
+
+  low-one : 4 * n ≤ (2 * q + 1) * s * ((2 * q + 1) * s) → NoNearer n (q * s) y
+  low-one h = (below, λ l. above l clear)
+    where
+      below : y < q * s → (q * s + y) * (q * s + y) ≤ 4 * n
+      below l =
+          let r = q * s in
+          let a : r + y ≤ r + r = omega arith in
+          le-trans (mul-le-mul a a) (le-trans (le-of-eq (twice-square r)) (mul-le-mul-left 4 lo))
+
+      above : q * s < y → (y ≤ q * s) ⊎ ((q + 1) * s ≤ y) → 4 * n ≤ (q * s + y) * (q * s + y)
+      above l (inl g) = absurd (not-le-of-lt l g)
+      above l (inr g) =
+          let a : (2 * q + 1) * s ≤ q * s + y = le-trans (le-of-eq (sym mid)) (omega arith) in
+          le-trans h (mul-le-mul a a)
+
+  high-one : (2 * q + 1) * s * ((2 * q + 1) * s) ≤ 4 * n → NoNearer n ((q + 1) * s) y
+  high-one h = (λ l. below l clear, above)
+    where
+      below : y < (q + 1) * s → (y ≤ q * s) ⊎ ((q + 1) * s ≤ y) → ((q + 1) * s + y) * ((q + 1) * s + y) ≤ 4 * n
+      below l (inl g) =
+          let a : (q + 1) * s + y ≤ (2 * q + 1) * s = le-trans (omega arith) (le-of-eq mid) in
+          le-trans (mul-le-mul a a) h
+      below l (inr g) = absurd (not-le-of-lt l g)
+
+      above : (q + 1) * s < y → 4 * n ≤ ((q + 1) * s + y) * ((q + 1) * s + y)
+      above l =
+          let r = (q + 1) * s in
+          let a : r + r ≤ r + y = omega arith in
+          le-trans (mul-le-mul-left 4 hi) (le-trans (le-of-eq (sym (twice-square r))) (mul-le-mul a a))
+
+-- ---- q, the kept digits, has prec of them where any were dropped
+kept-ge : (p w : ℕ) → 0 < p → 0 < size w - p → 2 ^ (p - 1) ≤ w / 2 ^ (size w - p)
+kept-ge p w P K =
+    le-div-iff-mul-le (pow-pos (size w - p)) .1
+    (le-trans (le-of-eq (sym (pow-add 2 (p - 1) (size w - p)))) (size-reaches w (p - 1 + (size w - p)) (left (size w) K)))
+  where
+    left : (z : ℕ) → 0 < z - p → p - 1 + (z - p) < z
+    left z h = omega arith
+
+-- ---- the result against any value
+nearest-root : (f : Format) (num den n r y : ℕ) → 0 < den → num * (2 ^ low f * 2 ^ low f) ≡ n * den → HasValue (roundRoot f num den) false r (2 ^ low f) → OnGrid f y → NoNearer n r y
+nearest-root f num den n r y D e v g =
+    let m = num * (2 ^ low f * 2 ^ low f) in
+    let w = floorRoot n in
+    let k = size w - prec f in
+    let s = 2 ^ k in
+    let q = w / s in
+    let is : roundRoot f num den ≡ fromDigits f m den k q = from-whole f num den n D e in
+    let M = (2 * q + 1) * s in
+    let c = nearest q (compare (4 * m) (M * M * den)) in
+    let r-is : r ≡ c * s = units-value f c k r (subst (λ (z : Float). HasValue z false r (2 ^ low f)) is v) in
+    let a : q * s ≤ w = div-mul-le-self w s in
+    let b : w + 1 ≤ (q + 1) * s = next w q s (lt-div-mul-add (pow-pos k)) in
+    let lo : q * s * (q * s) ≤ n = le-trans (mul-le-mul a a) (floor-root n .reached) in
+    let hi : n ≤ (q + 1) * s * ((q + 1) * s) = le-trans (le-of-lt (floor-root n .not-passed)) (mul-le-mul b b) in
+    let apart = gap f k q y (kept-ge (prec f) w (two-le-pos (prec f) (two f))) g in
+    subst (λ (z : ℕ). NoNearer n z y) (sym r-is)
+    (⊎-elim
+    (λ p. subst (λ (z : ℕ). NoNearer n (z * s) y) (sym (p .0)) (low-one n q s y lo hi apart (le-of-mul-le-mul-right (le-trans (le-of-eq (four m n den e)) (p .1)) D)))
+    (λ p. subst (λ (z : ℕ). NoNearer n (z * s) y) (sym (p .0)) (high-one n q s y lo hi apart (le-of-mul-le-mul-right (le-trans (p .1) (le-of-eq (sym (four m n den e)))) D)))
+    (picked q (4 * m) (M * M * den)))
+  where
+    next : (w q s : ℕ) → w < q * s + s → w + 1 ≤ (q + 1) * s
+    next w q s h = omega arith
+
+    four : (m n den : ℕ) → m ≡ n * den → 4 * n * den ≡ 4 * m
+    four m n den e = omega arith
+
+-- ---- the root of a value above zero is finite
+square-under : (w l e n : ℕ) → w * w ≤ n → n < 2 ^ suc e * (2 ^ l * 2 ^ l) → 0 < e → w < 2 ^ (l + e)
+square-under w l e n h k E =
+    sq-lt-back w (2 ^ (l + e))
+    (lt-of-le-of-lt h
+    (lt-of-lt-of-le k
+    (le-trans (mul-le-mul-right (2 ^ l * 2 ^ l) (pow-mono (fits-twice e E)))
+    (le-of-eq (ap (λ (z : ℕ). z * (2 ^ l * 2 ^ l)) (pow-add 2 e e) ∙ swap (2 ^ e) (2 ^ l) ∙ ap (λ (z : ℕ). z * z) (sym (pow-add 2 l e)))))))
+  where
+    fits-twice : (e : ℕ) → 0 < e → suc e ≤ e + e
+    fits-twice e h = omega arith
+
+    swap : (a b : ℕ) → a * a * (b * b) ≡ b * a * (b * a)
+    swap a b = omega arith
+
+some-exponent : (f : Format) → 0 < emax f
+some-exponent binary32 = lit< tt
+some-exponent binary64 = lit< tt
+
+kept-under : (f : Format) (w c : ℕ) → w < 2 ^ (low f + emax f) → c ≤ suc (w / 2 ^ (size w - prec f)) → c * 2 ^ (size w - prec f) < 2 ^ (low f + suc (emax f))
+kept-under f w c W C =
+    let k = size w - prec f in
+    lt-of-le-of-lt (le-trans (mul-le-mul-right (2 ^ k) (le-trans C (kept-lt (prec f) w))) (le-of-eq (sym (pow-add 2 (prec f) k))))
+    (pow-lt (room (prec f) (size w) (emax f) (two f) (reach f) (size-le w (low f + emax f) W)))
+  where
+    room : (p z e : ℕ) → 2 ≤ p → p ≤ suc e → z ≤ e + p - 2 + e → p + (z - p) < e + p - 2 + suc e
+    room p z e a b h = omega arith
+
+bounded : (f : Format) (x : Float) (n : ℕ) → T (fits f x) → InUnits f x n → 0 < n → n < 2 ^ suc (emax f) * (2 ^ low f * 2 ^ low f)
+bounded f nan n h v N = absurd v
+bounded f (inf s) n h v N = absurd v
+bounded f (fin s zero e) n h v N = absurd (not-zero zero e (2 ^ low f * 2 ^ low f) n N (v .1) refl)
+bounded f (fin s (suc m) e) n h v N =
+    lt-of-mul-lt-mul-right (down e)
+    (lt-of-le-of-lt (le-of-eq (sym (v .1)))
+    (lt-of-lt-of-le (mul-lt-mul-of-pos-right (in-format f s m e h .2) (mul-pos (pow-pos (low f)) (pow-pos (low f)))) (le-of-eq (mul-right-comm (2 ^ suc (emax f)) (down e) (2 ^ low f * 2 ^ low f)))))
+
+finite-root : (f : Format) (num den n : ℕ) → 0 < den → num * (2 ^ low f * 2 ^ low f) ≡ n * den → n < 2 ^ suc (emax f) * (2 ^ low f * 2 ^ low f) → (r : ℕ) × HasValue (roundRoot f num den) false r (2 ^ low f)
+finite-root f num den n D e h =
+    let m = num * (2 ^ low f * 2 ^ low f) in
+    let w = floorRoot n in
+    let k = size w - prec f in
+    let q = w / 2 ^ k in
+    let M = (2 * q + 1) * 2 ^ k in
+    let o = compare (4 * m) (M * M * den) in
+    let is : roundRoot f num den ≡ fromDigits f m den k q = from-whole f num den n D e in (
+      nearest q o * 2 ^ k,
+      subst (λ (z : Float). HasValue z false (nearest q o * 2 ^ k) (2 ^ low f)) (sym is)
+          (units-val f false (nearest q o) k (kept-under f w (nearest q o) (square-under w (low f) (emax f) n (floor-root n .reached) h (some-exponent f)) (nearest-le q o))),
+    )
+
+-- ---- the law
+squared : (f : Format) (x : Float) (y : ℕ) → HasValue x false y (2 ^ low f) → InUnits f x (y * 2 ^ low f)
+squared f nan y v = v
+squared f (inf s) y v = v
+squared f (fin s m e) y v = (v .0, sym (mul-assoc (m * up e) (2 ^ low f) (2 ^ low f)) ∙ ap (λ (z : ℕ). z * 2 ^ low f) (v .1) ∙ mul-right-comm y (down e) (2 ^ low f))
+
+pub correctly-rounded : (f : Format) (x : Float) → T (fits f x) → T (positive x) → (n : ℕ) × (r : ℕ) × NearestRoot f x n r
+correctly-rounded f x h p =
+    let u = has-units f x h p in
+    let n = u .0 * 2 ^ low f in
+    let v : InUnits f x n = squared f x (u .0) (u .1) in
+    let N : 0 < n = mul-pos (value-pos x (u .0) (2 ^ low f) p (pow-pos (low f)) (u .1)) (pow-pos (low f)) in
+    let o = opened f x n v N in
+    let k = finite-root f (o .0) (o .1) n (o .2) (o .3) (bounded f x n h v N) in (
+      n,
+      k .0,
+      record {
+        number = v;
+        root = subst (λ (a : Float). HasValue a false (k .0) (2 ^ low f)) (sym (o .4)) (k .1);
+        no-nearer = λ z y t w. nearest-root f (o .0) (o .1) n (k .0) y (o .2) (o .3) (k .1) (on-grid f z y t w);
+      },
+    )

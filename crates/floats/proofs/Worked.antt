@@ -1,0 +1,34 @@
+-- Roots worked out from the definition: document 01's row, the root of the least positive f64, and its rules for -0, a negative number and +infinity.
+use mathlib.Core.Path.{_≡_, refl}
+use lib.IntN.{negsuc}
+use mathlib.Core.Bool.{false}
+use lib.Ieee.{nan, fin, binary64, ofBits, toBits}
+use Rattle.floats.specs.Root.{rootOf}
+
+-- the least positive f64 is 2 ^ -1074; `negsuc 536` is -537
+least-positive : rootOf binary64 (ofBits binary64 1) ≡ fin false 1 (negsuc 536)
+unfolding ofBits rootOf
+least-positive = refl
+
+minus-zero : rootOf binary64 (ofBits binary64 0x8000_0000_0000_0000) ≡ ofBits binary64 0x8000_0000_0000_0000
+unfolding ofBits rootOf
+minus-zero = refl
+
+-- of -1
+negative : rootOf binary64 (ofBits binary64 0xbff0_0000_0000_0000) ≡ nan
+unfolding ofBits rootOf
+negative = refl
+
+infinity : rootOf binary64 (ofBits binary64 0x7ff0_0000_0000_0000) ≡ ofBits binary64 0x7ff0_0000_0000_0000
+unfolding ofBits rootOf
+infinity = refl
+
+-- of 2: the exact root is no f64, and the nearest one is above it
+two : toBits binary64 (rootOf binary64 (ofBits binary64 0x4000_0000_0000_0000)) ≡ 0x3ff6_a09e_667f_3bcd
+unfolding ofBits rootOf toBits
+two = refl
+
+-- the largest f64 below 1 is its own root
+below-one : toBits binary64 (rootOf binary64 (ofBits binary64 0x3fef_ffff_ffff_ffff)) ≡ 0x3fef_ffff_ffff_ffff
+unfolding ofBits rootOf toBits
+below-one = refl

@@ -1,0 +1,5 @@
+pub mod F64
+pub mod Pick
+pub mod Root
+pub mod Length
+pub mod Steps

@@ -1,0 +1,19 @@
+use native.Mathlib.Omega.{arith}
+use lib.ListN.{length-set}
+use Rattle.places.proofs.Stored.{length-pairs, pairs-set}
+use borrow.Author.Needs.{needs}
+use Rattle.outline.proofs.put_pair.Statement.{statement}
+use Rattle.outline.proofs.put_pair.Tie as tie
+
+pub put-pair-spec : {M : Type 1} → statement M
+put-pair-spec =
+    tie.close
+    (tie.spec
+    (λ c. omega (arith, length-pairs (c .args .ps .now)))
+    (λ c. omega (arith, length-pairs (c .args .ps .now)))
+    (λ c. omega (arith, length-pairs (c .args .ps .now)))
+    (λ c. omega (arith, length-pairs (c .args .ps .now)))
+    (λ c. omega (arith, length-pairs (c .args .ps .now)))
+    (λ c. simp length-set (omega (arith, length-pairs (c .args .ps .now))))
+    (λ c. search needs)
+    (λ c. pairs-set (c .args .ps .now) (c .args .i) (c .args .x) (c .args .y) (omega (arith, length-pairs (c .args .ps .now)))))

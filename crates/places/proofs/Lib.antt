@@ -1,0 +1,6 @@
+pub mod Loops
+pub mod Turns
+pub mod Lists
+pub mod Rings
+pub mod Stored
+pub mod Reversal

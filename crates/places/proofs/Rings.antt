@@ -1,0 +1,78 @@
+-- The places beside a place of a ring are on the ring, and the side at a place runs from there to the next.
+use mathlib.Core.Path.{_≡_, refl, sym, _∙_, ap}
+use mathlib.Core.Bool.{Bool, true, false}
+use mathlib.Core.List.{List, [], _∷_, _++_}
+use Prim.Native.Nat.{ℕ, zero, suc, _+_, _-_, _<_, _≤_}
+use native.Mathlib.Nat.{le-of-suc-le-suc, not-suc-le-zero}
+use native.Mathlib.Omega.{arith}
+use native.Mathlib.Numerals.{add-one}
+use lib.Dec.{eqb, ltb}
+use lib.ListN.{length, getD, List·getD-append}
+use lib.Seq.{getD-at}
+use borrow.Author.Tests.{ltb-true, ltb-false, ne-eqb}
+use Rattle.places.specs.Loops.{pick}
+use Rattle.places.specs.Ring.{walk, sides, prevOf, nextOf, earOf}
+use Rattle.places.specs.Lists.{Each}
+use Rattle.places.proofs.Lists.{each-nil, each-cons}
+
+pub prev-below : (k n : ℕ) → k < n → prevOf k n < n
+unfolding prevOf
+prev-below k n h = go (eqb k 0)
+  where
+    go : (b : Bool) → pick b (n - 1) (k - 1) < n
+    go true = omega arith
+    go false = omega arith
+
+pub prev-suc : (k n : ℕ) → prevOf (suc k) n ≡ k
+unfolding prevOf
+prev-suc k n =
+    let e : suc k - 1 ≡ k = omega arith in
+    rw (ne-eqb (suc k) 0 (λ z. absurd (omega arith)), e)
+
+pub next-below : (k n : ℕ) → k < n → nextOf k n < n
+unfolding nextOf
+next-below k n h = go (ltb (k + 1) n) refl
+  where
+    go : (b : Bool) → ltb (k + 1) n ≡ b → pick b (k + 1) 0 < n
+    go true e = omega (arith, ltb-true (k + 1) n e)
+    go false e = omega arith
+
+-- what holds of a ring's corners holds of those of its triangle at k
+pub each-ear : {P : ℕ → Type 0} (k : ℕ) (l : List ℕ) → k < length l → Each 0 P l → Each 0 P (earOf k l)
+unfolding earOf
+each-ear k l h e =
+    each-cons (e .holds (prevOf k (length l)) (prev-below k (length l) h))
+    (each-cons (e .holds k h) (each-cons (e .holds (nextOf k (length l)) (next-below k (length l) h)) each-nil))
+
+-- ---- sides
+module _ {A : Type 0} where
+  length-walk : (a : A) (l : List A) (z : A) → length (walk a l z) ≡ suc (length l)
+  length-walk a [] z = refl
+  length-walk a (b ∷ l) z = ap suc (length-walk b l z)
+
+  pub length-sides : (l : List A) → length (sides l) ≡ length l
+  length-sides [] = refl
+  length-sides (a ∷ l) = length-walk a l a
+
+  walk-at : (a : A) (l : List A) (z : A) (i : ℕ) (d : A) → i ≤ length l → getD (walk a l z) i (d, d) ≡ (getD (a ∷ l) i d, getD (l ++ z ∷ []) i d)
+  walk-at a [] z zero d h = refl
+  walk-at a [] z (suc i) d h = absurd (not-suc-le-zero h)
+  walk-at a (b ∷ l) z zero d h = refl
+  walk-at a (b ∷ l) z (suc i) d h = walk-at b l z i d (le-of-suc-le-suc h)
+
+  after-at : (a : A) (l : List A) (i : ℕ) (d : A) → i ≤ length l → getD (l ++ a ∷ []) i d ≡ getD (a ∷ l) (nextOf i (suc (length l))) d
+  unfolding nextOf
+  after-at a l i d h = go (ltb (i + 1) (suc (length l))) refl
+    where
+      go : (b : Bool) → ltb (i + 1) (suc (length l)) ≡ b → getD (l ++ a ∷ []) i d ≡ getD (a ∷ l) (pick b (i + 1) 0) d
+      go true e =
+          let g : i < length l = omega (arith, ltb-true (i + 1) (suc (length l)) e) in
+          rw (add-one i) (List·getD-append l (a ∷ []) d i g)
+      go false e =
+          let g : length l ≡ i = omega (arith, ltb-false (i + 1) (suc (length l)) e) in
+          getD-at l a [] d i g
+
+  -- the side at place i runs from the corner there to the next
+  pub side-at : (l : List A) (i : ℕ) (d : A) → i < length l → getD (sides l) i (d, d) ≡ (getD l i d, getD l (nextOf i (length l)) d)
+  side-at [] i d h = absurd (not-suc-le-zero h)
+  side-at (a ∷ l) i d h = walk-at a l a i d (le-of-suc-le-suc h) ∙ ap (λ x. (getD (a ∷ l) i d, x)) (after-at a l i d (le-of-suc-le-suc h))

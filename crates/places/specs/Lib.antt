@@ -1,0 +1,4 @@
+pub mod Loops
+pub mod Lists
+pub mod Ring
+pub mod Stored

@@ -1,0 +1,32 @@
+//! Counts by kind, printed in a fixed order.
+
+use std::collections::BTreeMap;
+use std::fmt::Debug;
+
+/// How often each kind came up. The title heads the printed list.
+pub struct Tally {
+    title: &'static str,
+    counts: BTreeMap<String, usize>,
+}
+
+impl Tally {
+    pub fn new(title: &'static str) -> Self {
+        Tally {
+            title,
+            counts: BTreeMap::new(),
+        }
+    }
+
+    pub fn add(&mut self, kind: impl Debug) {
+        *self.counts.entry(format!("{kind:?}")).or_default() += 1;
+    }
+
+    pub fn print(&self) {
+        let counts: Vec<String> = self
+            .counts
+            .iter()
+            .map(|(kind, count)| format!("{kind} {count}"))
+            .collect();
+        println!("{}: {}", self.title, counts.join(", "));
+    }
+}

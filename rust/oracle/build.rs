@@ -1,0 +1,196 @@
+//! Brings the Rust of mefikit into this crate.
+//!
+//! The files are read from the folder that `MEFIKIT_SRC` names and written, with a few lines added
+//! after their last one, to cargo's output folder. The added lines only open a way in: a child
+//! module sees the private items of its parent, so `reach` can offer them to the outside.
+//!
+//! Two builds are written. `plain` is the text as it is. `ruled` has its calls of `hypot` replaced
+//! by the rule of document 01.
+
+use std::path::{Path, PathBuf};
+use std::{env, fs};
+
+/// The environment variable that names the folder with the Rust.
+const SOURCE_VARIABLE: &str = "MEFIKIT_SRC";
+
+/// Where the Rust is looked for when the variable is not set, seen from this folder.
+const DEFAULT_SOURCE: &str = "../../../shared/docs/src";
+
+const CONVEXITY: &str = "crates/mefikit/src/geometry/convexity.rs";
+const POLYGON: &str = "crates/mefikit/src/geometry/polygon.rs";
+const POLYHEDRON: &str = "crates/mefikit/src/geometry/polyhedron.rs";
+const CONSERVATIVE: &str = "crates/mefikit/src/tools/transfer/conservative_p0.rs";
+
+/// The functions cut out of `conservative_p0.rs`; the rest of that file leans on the whole mesh.
+const CONSERVATIVE_FUNCTIONS: [&str; 3] = [
+    "convex_intersection_area",
+    "clip_convex",
+    "segment_intersection",
+];
+
+/// What those functions use of the rest.
+const CONSERVATIVE_USES: &str = "use super::geometry::polygon::{cross2, signed_area2};\n";
+
+/// The stand-ins, under the names by which `polygon.rs` calls the outside crates.
+const POLYGON_USES: &str = "use crate::standins::{itertools, nalgebra, robust, smallvec};\n";
+
+/// The rule that stands in for `hypot`, under a name that no method of `f64` has.
+const RULE_USES: &str = "use crate::ruled_length::RuledHypot as _;\n";
+
+const HYPOT_CALL: &str = ".hypot(";
+const RULED_CALL: &str = ".ruled_hypot(";
+
+/// How many calls of `hypot` document 01 speaks of.
+const HYPOT_CALLS: usize = 2;
+
+/// The text of every file of one build.
+struct Texts {
+    convexity: String,
+    polygon: String,
+    polyhedron: String,
+    conservative: String,
+}
+
+fn main() {
+    if let Err(reason) = bring_in() {
+        println!("cargo::error={reason}");
+    }
+}
+
+fn bring_in() -> Result<(), String> {
+    let own_folder = PathBuf::from(variable("CARGO_MANIFEST_DIR")?);
+    let out_folder = PathBuf::from(variable("OUT_DIR")?);
+    let source = source_folder(&own_folder);
+
+    let plain = read_texts(&source)?;
+    write_build("plain", &plain, &own_folder, &out_folder)?;
+    write_build("ruled", &ruled(&plain)?, &own_folder, &out_folder)
+}
+
+fn variable(name: &str) -> Result<String, String> {
+    env::var(name).map_err(|_| format!("cargo did not set {name}"))
+}
+
+/// The folder with the Rust. A relative path is taken from the oracle's own folder.
+fn source_folder(own_folder: &Path) -> PathBuf {
+    println!("cargo::rerun-if-env-changed={SOURCE_VARIABLE}");
+    let given = env::var(SOURCE_VARIABLE).unwrap_or_else(|_| DEFAULT_SOURCE.to_string());
+    own_folder.join(given)
+}
+
+fn read_texts(source: &Path) -> Result<Texts, String> {
+    let conservative = read_text(source, CONSERVATIVE)?;
+    Ok(Texts {
+        convexity: read_text(source, CONVEXITY)?,
+        polygon: read_text(source, POLYGON)?,
+        polyhedron: read_text(source, POLYHEDRON)?,
+        conservative: cut_out_all(&conservative)?,
+    })
+}
+
+fn read_text(source: &Path, file: &str) -> Result<String, String> {
+    let path = source.join(file);
+    println!("cargo::rerun-if-changed={}", path.display());
+    fs::read_to_string(&path).map_err(|why| {
+        format!(
+            "{} cannot be read ({why}): set {SOURCE_VARIABLE} to the folder that holds {file}",
+            path.display()
+        )
+    })
+}
+
+/// Cuts the needed functions out of `conservative_p0.rs`.
+fn cut_out_all(text: &str) -> Result<String, String> {
+    let mut pieces = String::new();
+    for name in CONSERVATIVE_FUNCTIONS {
+        pieces.push_str(cut_out(text, name)?);
+        pieces.push('\n');
+    }
+    Ok(pieces)
+}
+
+/// The text of the function `name`: from its line at the margin to the next brace at the margin.
+fn cut_out<'a>(text: &'a str, name: &str) -> Result<&'a str, String> {
+    let start_mark = format!("\nfn {name}(");
+    let end_mark = "\n}\n";
+    let missing = || format!("{CONSERVATIVE} has no function `{name}` at the margin");
+
+    let start = text.find(&start_mark).ok_or_else(missing)? + 1;
+    let length = text[start..].find(end_mark).ok_or_else(missing)? + end_mark.len();
+    Ok(&text[start..start + length])
+}
+
+/// The same texts with the calls of `hypot` replaced by the rule.
+fn ruled(plain: &Texts) -> Result<Texts, String> {
+    let calls = plain.polyhedron.matches(HYPOT_CALL).count();
+    let mentions = [
+        &plain.convexity,
+        &plain.polygon,
+        &plain.polyhedron,
+        &plain.conservative,
+    ]
+    .map(|text| text.matches("hypot").count())
+    .iter()
+    .sum::<usize>();
+    if calls != HYPOT_CALLS || mentions != HYPOT_CALLS {
+        return Err(format!(
+            "the rule for hypot replaces exactly {HYPOT_CALLS} calls in {POLYHEDRON}; \
+             found {calls} there and {mentions} mentions in all"
+        ));
+    }
+    Ok(Texts {
+        convexity: plain.convexity.clone(),
+        polygon: plain.polygon.clone(),
+        polyhedron: plain.polyhedron.replace(HYPOT_CALL, RULED_CALL) + RULE_USES,
+        conservative: plain.conservative.clone(),
+    })
+}
+
+/// Writes the files of one build, and the list of modules that `lib.rs` includes.
+fn write_build(name: &str, texts: &Texts, own: &Path, out: &Path) -> Result<(), String> {
+    let folder = out.join(name);
+    fs::create_dir_all(&folder).map_err(|why| format!("{}: {why}", folder.display()))?;
+
+    let reach = |file: &str| module_at(&own.join("src/reach").join(file), "pub mod reach");
+    let polygon = format!("{}\n{POLYGON_USES}{}", texts.polygon, reach("polygon.rs"));
+    let polyhedron = format!("{}\n{}", texts.polyhedron, reach("polyhedron.rs"));
+    let conservative = format!(
+        "{CONSERVATIVE_USES}{}\n{}",
+        texts.conservative,
+        reach("conservative.rs")
+    );
+
+    write(&folder.join("convexity.rs"), &texts.convexity)?;
+    write(&folder.join("polygon.rs"), &polygon)?;
+    write(&folder.join("polyhedron.rs"), &polyhedron)?;
+    write(&folder.join("conservative.rs"), &conservative)?;
+    write(&out.join(format!("{name}.rs")), &module_list(&folder, own))
+}
+
+/// The modules of one build, laid out as in mefikit where the Rust's own paths ask for it.
+fn module_list(folder: &Path, own: &Path) -> String {
+    let file = |name: &str, head: &str| module_at(&folder.join(name), head);
+    let entries = module_at(&own.join("src/entries.rs"), "pub(crate) mod entries");
+    [
+        "#[allow(dead_code, unused_imports, clippy::all)]\nmod geometry {\n",
+        &file("convexity.rs", "pub mod convexity"),
+        &file("polygon.rs", "pub mod polygon"),
+        &file("polyhedron.rs", "pub mod polyhedron"),
+        "pub(crate) use polygon::{bounds_iter, vertex_centroid};\n}\n",
+        "#[allow(clippy::all)]\n",
+        &file("conservative.rs", "mod conservative"),
+        &entries,
+        "pub use conservative::reach::*;\n",
+        "pub use geometry::polygon::reach::*;\n",
+        "pub use geometry::polyhedron::reach::*;\n",
+    ]
+    .concat()
+}
+
+fn module_at(path: &Path, head: &str) -> String {
+    format!("#[path = {:?}]\n{head};\n", path.display().to_string())
+}
+
+fn write(path: &Path, text: &str) -> Result<(), String> {
+    fs::write(path, text).map_err(|why| format!("{}: {why}", path.display()))
+}

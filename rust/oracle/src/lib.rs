@@ -1,0 +1,46 @@
+//! The Rust of mefikit, compiled as it stands, to judge the port by.
+//!
+//! Two builds of the same code stand side by side with the same functions in them: [`plain`], the
+//! Rust as it is, and [`ruled`], in which the two calls of `hypot` follow document 01's rule. Each
+//! function carries the name of the Rust function that it calls. A single face is a list of
+//! `usize`, which is what the Rust itself takes; a whole cell is a [`Cell`].
+//!
+//! The Rust panics where the port refuses. [`protocol::answer`] catches that; a caller of the
+//! functions themselves can use [`caught`].
+
+// The two builds share the files that open the way in; that is their purpose.
+#![allow(clippy::duplicate_mod)]
+
+#[cfg(all(debug_assertions, not(doc)))]
+compile_error!("the oracle speaks for a release build: build it with debug assertions off");
+
+mod cell;
+mod mesh;
+pub mod protocol;
+mod ruled_length;
+mod standins;
+
+pub use cell::{Cell, Shape};
+
+/// The Rust as it is.
+pub mod plain {
+    include!(concat!(env!("OUT_DIR"), "/plain.rs"));
+}
+
+/// The Rust with its two calls of `hypot` replaced by the rule of document 01.
+pub mod ruled {
+    include!(concat!(env!("OUT_DIR"), "/ruled.rs"));
+}
+
+/// Runs `question` and gives its answer, or `None` where the Rust panics.
+///
+/// The panic's own message is still printed unless the program has set a hook; see
+/// [`silence_panics`].
+pub fn caught<T>(question: impl FnOnce() -> T) -> Option<T> {
+    std::panic::catch_unwind(std::panic::AssertUnwindSafe(question)).ok()
+}
+
+/// Keeps panics from printing their message, for programs in which they are answers.
+pub fn silence_panics() {
+    std::panic::set_hook(Box::new(|_| {}));
+}

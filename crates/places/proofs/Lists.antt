@@ -6,7 +6,7 @@ use native.Mathlib.Nat.{suc-add, not-suc-le-zero, le-of-suc-le-suc}
 use native.Mathlib.Omega.{arith}
 use native.Mathlib.Numerals.{add-one}
 use lib.ListN.{length, getD, set, take, drop, length-set, length-take, length-drop, drop-of-length-le, replicate, length-replicate}
-use lib.Seq.{take-at, length-take-le, take-all, take-suc-set, drop-cons, sets, sets-eq, getD-take, getD-drop}
+use lib.Seq.{slice, take-at, length-take-le, take-all, take-suc-set, drop-cons, sets, sets-eq, getD-take, getD-drop}
 use Rattle.places.proofs.Turns.{foldFrom}
 use Rattle.places.specs.Lists.{Each, without, removed}
 
@@ -152,13 +152,10 @@ module _ {A : Type 0} {d : A} {P : A → Type 0} where
   each-without (suc k) (x ∷ xs) e = each-cons (each-head e) (each-without k xs (each-tail e))
 
   -- of a part of a list
-  pub each-part : (l : List A) (a n : ℕ) → Each d P l → Each d P (take n (drop a l))
-  each-part l a n e = record { holds = go }
+  pub each-slice : (s e : ℕ) (l : List A) → Each d P l → Each d P (slice s e l)
+  each-slice s e l t = record { holds = go }
     where
-      go : (k : ℕ) → k < length (take n (drop a l)) → P (getD (take n (drop a l)) k d)
+      go : (k : ℕ) → k < length (slice s e l) → P (getD (slice s e l) k d)
       go k h =
-          let q : length (take n (drop a l)) ≡ min n (length l - a) = length-take n (drop a l) ∙ simp length-drop in
-          rw (getD-take n (drop a l) k d (omega arith), getD-drop a l k d) (e .holds (a + k) (omega arith))
-
-pub part-short : {A : Type 0} (l : List A) (a n : ℕ) → length (take n (drop a l)) ≤ length l
-part-short l a n = simp (length-take, length-drop) (omega arith)
+          let q : length (slice s e l) ≡ min e (length l) - s = simp (length-drop, length-take) in
+          rw (getD-drop s (take e l) k d, getD-take e l (s + k) d (omega arith)) (t .holds (s + k) (omega arith))

@@ -1,0 +1,79 @@
+-- The ray and a face: a loop once round a ring that keeps the corner it came from, a face's points in the plane, a stretch of corners, a face of no corners, and sides that pass.
+use mathlib.Core.Path.{_≡_, refl, sym, _∙_}
+use mathlib.Core.Bool.{Bool, true, false, not, _&&_, Bool·beq}
+use mathlib.Core.List.{List, [], _∷_}
+use Prim.Native.Nat.{ℕ, _+_, _-_, _<_, _≤_}
+use native.Mathlib.Omega.{arith}
+use lib.ListN.{length, getD, drop, drop-of-length-le, length-map}
+use lib.Ieee.{Float, ofBits, mul, lt, le}
+use Rattle.places.specs.Ring.{walk, sides, foldPairs}
+use Rattle.places.proofs.Loops.{drop-more}
+use Rattle.places.proofs.Lists.{map-at}
+use Rattle.floats.specs.Pick.{magnitudeOf, largestOf}
+use Rattle.flat.specs.Points.{Point, at, cornersOf}
+use Rattle.flat.specs.Flat.{newellOf, pointOf, pointsOf}
+use Rattle.inside.specs.Ray.{differ, meetsAt, passes, inOutline, alongOf, rayCrosses}
+
+-- ---- from the corner a, with the corners from place i on to come and z at the end, the state s comes to `whole`
+pub record Walking {A S : Type 0} (f : A → A → S → S) (l : List A) (whole : S) (z : A) (i : ℕ) (a : A) (s : S) : Type 0 where
+  pub within : i ≤ length l
+  pub so : foldPairs f (walk a (drop i l) z) s ≡ whole
+
+module _ {A S : Type 0} {f : A → A → S → S} {l : List A} {whole : S} where
+  pub walk-start : {a : A} {s : S} (d : A) → 0 < length l → a ≡ getD l 0 d → foldPairs f (sides l) s ≡ whole → Walking f l whole a 1 a s
+  walk-start {a} {s} d h q e = record { within = h; so = rw q (go l h e) }
+    where
+      go : (l : List A) → 0 < length l → foldPairs f (sides l) s ≡ whole → foldPairs f (walk (getD l 0 d) (drop 1 l) (getD l 0 d)) s ≡ whole
+      go [] h e = absurd (omega arith)
+      go (x ∷ xs) h e = e
+
+  pub walk-turn : {z a b : A} {i : ℕ} {s s′ : S} (d : A) → Walking f l whole z i a s → i < length l → b ≡ getD l i d → s′ ≡ f a b s → Walking f l whole z (i + 1) b s′
+  unfolding foldPairs
+  walk-turn {z} {a} {b} {i} {s} {s′} d w h q e = record { within = omega arith; so = rw (e, q) (sym (rw (drop-more l i d h)) ∙ w .so) }
+
+  pub walk-end : {z a : A} {i : ℕ} {s s′ : S} → Walking f l whole z i a s → length l ≤ i → s′ ≡ f a z s → s′ ≡ whole
+  unfolding foldPairs
+  walk-end {z} {a} {i} {s} w h e = e ∙ sym (rw (drop-of-length-le l h)) ∙ w .so
+
+-- ---- a face's points in the plane, one for each of its corners
+module _ (vs : List Point) (axis : ℕ) (face : List ℕ) where
+  pub length-points : length (pointsOf vs axis face) ≡ length face
+  unfolding pointsOf
+  length-points = length-map face (pointOf vs axis)
+
+  pub points-at : (i : ℕ) → i < length face → getD (pointsOf vs axis face) i [] ≡ pointOf vs axis (getD face i 0)
+  unfolding pointsOf
+  points-at i h = map-at (pointOf vs axis) face i 0 [] h
+
+-- ---- a face of no corners: no ray crosses it, as its normal is three zeros
+pub none-crossed : (vs : List Point) (p : Point) (face : List ℕ) → length face ≡ 0 → false ≡ rayCrosses vs p face
+unfolding rayCrosses alongOf newellOf cornersOf foldPairs ofBits mul le magnitudeOf largestOf
+none-crossed vs p [] h = refl
+none-crossed vs p (c ∷ cs) h = absurd (omega arith)
+
+-- and nothing is in its outline
+pub no-outline : (vs : List Point) (axis : ℕ) (face : List ℕ) (p : Point) → length face ≡ 0 → false ≡ inOutline p (pointsOf vs axis face)
+unfolding inOutline pointsOf foldPairs
+no-outline vs axis [] p h = refl
+no-outline vs axis (c ∷ cs) p h = absurd (omega arith)
+
+-- ---- a side whose ends are on two sides of the height of p, and one whose ends are not
+differing : (x y c : Bool) → not (Bool·beq x y) ≡ true → c ≡ (differ x y && c)
+differing true true c e = cc
+differing true false c e = refl
+differing false true c e = refl
+differing false false c e = cc
+
+agreeing : (x y c : Bool) → not (Bool·beq x y) ≡ false → false ≡ (differ x y && c)
+agreeing true true c e = refl
+agreeing true false c e = cc
+agreeing false true c e = cc
+agreeing false false c e = refl
+
+pub passes-there : (p a b : Point) (x : Float) → x ≡ meetsAt p a b → not (Bool·beq (lt (at p 1) (at a 1)) (lt (at p 1) (at b 1))) ≡ true → lt (at p 0) x ≡ passes p a b
+unfolding passes
+passes-there p a b x q e = rw q (differing (lt (at p 1) (at a 1)) (lt (at p 1) (at b 1)) (lt (at p 0) (meetsAt p a b)) e)
+
+pub passes-not : (p a b : Point) → not (Bool·beq (lt (at p 1) (at a 1)) (lt (at p 1) (at b 1))) ≡ false → false ≡ passes p a b
+unfolding passes
+passes-not p a b e = agreeing (lt (at p 1) (at a 1)) (lt (at p 1) (at b 1)) (lt (at p 0) (meetsAt p a b)) e

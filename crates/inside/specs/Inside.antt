@@ -1,0 +1,51 @@
+-- A cell contains a point when the crossings are odd; and the same for faces in one list, each ended by 4,294,967,295.
+use Prim.Native.Nat.{ℕ, suc, _<_}
+use mathlib.Core.Bool.{Bool, false, not}
+use mathlib.Core.Logic.{_≢_}
+use mathlib.Core.List.{List, [], _∷_, _++_}
+use lib.Dec.{leb, eqb}
+use lib.ListN.{length}
+use Rattle.places.specs.Loops.{pick, foldList}
+use Rattle.places.specs.Lists.{Each}
+use Rattle.flat.specs.Points.{Point}
+use Rattle.inside.specs.Ray.{rayCrosses}
+
+-- each face that is crossed turns the answer round
+unfoldable pub crossFace : List Point → Point → List ℕ → Bool → Bool
+crossFace vs p face inside = pick (rayCrosses vs p face) (not inside) inside
+
+-- contains: an odd number of faces is crossed
+unfoldable pub containsOf : List Point → Point → List (List ℕ) → Bool
+containsOf vs p fs = foldList (crossFace vs p) fs false
+
+-- ---- point_in_phed
+-- the mark that ends a face
+abbrev pub faceEnd : ℕ
+faceEnd = 4294967295
+
+-- the faces of a list with marks: `face` is what is read of the one that is open
+unfoldable pub markedFrom : List ℕ → List ℕ → List (List ℕ)
+markedFrom face [] = face ∷ []
+markedFrom face (c ∷ cs) =
+    let ended = face ∷ markedFrom [] cs in
+    let longer = markedFrom (face ++ c ∷ []) cs in
+    pick (eqb c faceEnd) ended longer
+
+abbrev pub markedFaces : List ℕ → List (List ℕ)
+markedFaces cs = markedFrom [] cs
+
+-- how many corners stand before the first mark
+unfoldable pub beforeMark : List ℕ → ℕ
+beforeMark [] = 0
+beforeMark (c ∷ cs) = pick (eqb c faceEnd) 0 (suc (beforeMark cs))
+
+-- every entry that is no mark is the number of a vertex
+abbrev pub MarkedInside : List Point → List ℕ → Type 0
+MarkedInside vs cs = Each 0 (λ c. c ≢ faceEnd → c < length vs) cs
+
+-- a face under 3 corners is skipped
+unfoldable pub crossMarked : List Point → Point → List ℕ → Bool → Bool
+crossMarked vs p face inside = pick (leb 3 (length face)) (crossFace vs p face inside) inside
+
+unfoldable pub phedContainsOf : List Point → Point → List ℕ → Bool
+phedContainsOf vs p cs = foldList (crossMarked vs p) (markedFaces cs) false

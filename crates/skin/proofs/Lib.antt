@@ -1,0 +1,5 @@
+pub mod Corners
+pub mod Counted
+pub mod Room
+pub mod Numbers
+pub mod Worked

@@ -1,0 +1,26 @@
+use mathlib.Core.Path.{_≡_, refl}
+use mathlib.Core.List.{[]}
+use Prim.Native.Nat.{_-_}
+use lib.ListN.{length}
+use Rattle.places.specs.Loops.{foldList}
+use Rattle.places.proofs.Loops.{Taking, take-start, take-turn, take-end}
+use Rattle.flat.specs.Points.{verticesOf}
+use Rattle.volume.specs.Volume.{addTriple}
+use borrow.Author.Needs.{needs}
+use Rattle.volume.proofs.add_triangles.Statement.{statement}
+use Rattle.volume.proofs.add_triangles.Tie as tie
+
+pub add-triangles-spec : {M : Type 1} → statement M
+add-triangles-spec =
+    tie.close
+    (tie.spec
+    (λ coords tris refp v n s₀ i₀ s i. (n ≡ length tris) × Taking (addTriple (verticesOf coords) refp) tris (foldList (addTriple (verticesOf coords) refp) tris v) i s)
+    (λ coords tris refp v n s₀ i₀ s i. n - i)
+    (λ c. (refl, take-start refl))
+    (λ c. search needs)
+    (λ c. search needs)
+    (λ c κs. c .before .before .before .before .pre .holds _ (search needs))
+    (λ c. search needs)
+    (λ c. search needs)
+    (λ c. (c .before .before .before .loop .inv .0, take-turn [] (c .before .before .before .loop .inv .1) (search needs) (cc)))
+    (λ c. take-end (c .before .loop .inv .1) (search needs)))

@@ -1,0 +1,15 @@
+use mathlib.Core.Path.{ap}
+use Rattle.volume.specs.Volume.{volumeOf, measuredOf}
+use Rattle.volume.specs.declared.Measured.{Measured}
+use borrow.Author.Needs.{needs}
+use Rattle.volume.proofs.volume.Statement.{statement}
+use Rattle.volume.proofs.volume.Tie as tie
+
+pub volume-spec : {M : Type 1} → statement M
+unfolding volumeOf measuredOf
+volume-spec =
+    tie.close
+    (tie.spec
+    (λ c κs. search needs)
+    (λ c κs. search needs)
+    (λ c. cc (ap (λ (x : Measured). x .v6) (c .before .measure .ensures))))

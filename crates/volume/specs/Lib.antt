@@ -1,0 +1,3 @@
+pub mod Triangles
+pub mod Volume
+pub mod Passes

@@ -8,13 +8,13 @@ use lib.Dec.{ltb, eqb}
 use lib.ListN.{length, getD}
 use lib.Seq.{slice, slice-empty, length-slice}
 use lib.Ieee.{Float, nan}
-use borrow.Author.Tests.{ltb-false, leb-false, eqb-true, eqb-false, not-false, ne-eqb, lt-ltb, le-ltb}
+use borrow.Author.Tests.{ltb-true, ltb-false, leb-false, eqb-true, eqb-false, not-false, ne-eqb, lt-ltb, le-ltb}
 use Rattle.places.specs.Loops.{pick, anyOf}
 use Rattle.places.specs.Lists.{Each}
 use Rattle.places.proofs.Stored.{length-threes}
 use Rattle.flat.specs.Points.{verticesOf}
 use Rattle.cell.specs.Faces.{rises}
-use Rattle.cell.specs.Refusals.{firstRow, wild, notBelow, isEmpty, sizeRefused, numberRefused, endsRefused, indexRefused, refusalOf, Sound}
+use Rattle.cell.specs.Refusals.{firstRow, wild, notBelow, isEmpty, pointsRefused, sizeRefused, numberRefused, endsRefused, indexRefused, refusalOf, Sound}
 
 -- ---- the first row that applies
 module _ (n : ℕ) (rows : List (ℕ × Bool)) where
@@ -39,7 +39,7 @@ unfolding firstRow
 no-row = refl
 
 -- neither of two
-or-none : (a b : Bool) → a || b ≡ false → (a ≡ false) × (b ≡ false)
+pub or-none : (a b : Bool) → a || b ≡ false → (a ≡ false) × (b ≡ false)
 or-none true b e = (e, cc)
 or-none false b e = (refl, e)
 
@@ -76,34 +76,48 @@ module _ (p e : ℕ) (c : List ℕ) where
   unfolding isEmpty
   empty-no h g ne = rw (length-slice p e c g) (ne-eqb (e - p) 0 (λ z. ne (omega arith)))
 
--- ---- the size, told by the number of coordinates
-module _ (coords : List Float) (corners ends : List ℕ) where
-  size-is : (n : ℕ) → n ≡ length coords
-      → sizeRefused coords corners ends ≡ not (eqb (n % 3) 0) || (eqb (n / 3) 0 || (ltb 256 (n / 3) || (ltb 256 (length ends) || ltb 2048 (length corners))))
-  unfolding sizeRefused
-  size-is n e = rw (e, length-threes coords)
+-- ---- the size of a list of points, told by the number of coordinates
+module _ (coords : List Float) where
+  points-is : (n : ℕ) → n ≡ length coords → pointsRefused coords ≡ not (eqb (n % 3) 0) || (eqb (n / 3) 0 || ltb 256 (n / 3))
+  unfolding pointsRefused
+  points-is n e = rw (e, length-threes coords)
 
-  pub not-in-threes : (length coords % 3 ≡ 0 → ⊥) → true ≡ sizeRefused coords corners ends
-  unfolding sizeRefused
+  pub not-in-threes : (length coords % 3 ≡ 0 → ⊥) → true ≡ pointsRefused coords
+  unfolding pointsRefused
   not-in-threes h = rw (ne-eqb (length coords % 3) 0 h)
 
-  -- in threes: none, too many, or what else the size is refused for
-  pub no-vertex : length coords ≡ 0 → true ≡ sizeRefused coords corners ends
-  no-vertex h = rw (size-is 0 (sym h))
+  -- in threes: none, or as many as they are
+  pub no-vertex : length coords ≡ 0 → true ≡ pointsRefused coords
+  no-vertex h = rw (points-is 0 (sym h))
 
-  pub many-vertices : length coords % 3 ≡ 0 → 768 < length coords → true ≡ sizeRefused coords corners ends
-  many-vertices e h =
-      let n = length coords in
-      rw (size-is n refl, e, ne-eqb (n / 3) 0 (omega arith), lt-ltb 256 (n / 3) (omega arith))
-
-  pub other-size : length coords % 3 ≡ 0 → (length coords ≡ 0 → ⊥) → length coords ≤ 768
-      → sizeRefused coords corners ends ≡ ltb 256 (length ends) || ltb 2048 (length corners)
-  other-size e h g =
-      let n = length coords in
-      rw (size-is n refl, e, ne-eqb (n / 3) 0 (omega arith), le-ltb 256 (n / 3) (omega arith))
+  pub some-vertices : length coords % 3 ≡ 0 → (length coords ≡ 0 → ⊥) → ltb 768 (length coords) ≡ pointsRefused coords
+  some-vertices e h = go (ltb 768 (length coords)) refl
+    where
+      go : (b : Bool) → ltb 768 (length coords) ≡ b → b ≡ pointsRefused coords
+      go true t =
+          let n = length coords in
+          let m : 768 < n = ltb-true 768 n t in
+          rw (points-is n refl, e, ne-eqb (n / 3) 0 (omega arith), lt-ltb 256 (n / 3) (omega arith))
+      go false t =
+          let n = length coords in
+          let m : n ≤ 768 = ltb-false 768 n t in
+          rw (points-is n refl, e, ne-eqb (n / 3) 0 (omega arith), le-ltb 256 (n / 3) (omega arith))
 
 at-least-one : (n : ℕ) → eqb n 0 ≡ false → 1 ≤ n
 at-least-one n e = let h : n ≡ 0 → ⊥ = eqb-false n 0 e in omega arith
+
+-- what is known of a list of points that is not refused
+pub record Counted (coords : List Float) : Type 0 where
+  pub threes : length coords % 3 ≡ 0
+  pub some : 1 ≤ length (verticesOf coords)
+  pub few : length (verticesOf coords) ≤ 256
+
+pub counted : (coords : List Float) → pointsRefused coords ≡ false → Counted coords
+unfolding pointsRefused
+counted coords e =
+    let threes = or-none _ _ e in
+    let some = or-none _ _ (threes .1) in
+    record { threes = eqb-true _ _ (not-false _ (threes .0)); some = at-least-one _ (some .0); few = ltb-false 256 _ (some .1) }
 
 -- ---- the rows, none of which applies
 pub record Accepted (coords : List Float) (corners ends : List ℕ) (query : List Float) (asked : List ℕ) : Type 0 where
@@ -136,14 +150,13 @@ module _ (coords : List Float) (corners ends : List ℕ) (query : List Float) (a
   unfolding sizeRefused endsRefused
   sound e =
       let a = accepted e in
-      let threes = or-none _ _ (a .size) in
-      let some = or-none _ _ (threes .1) in
-      let few = or-none _ _ (some .1) in
-      let faces = or-none _ _ (few .1) in
+      let size = or-none _ _ (a .size) in
+      let points = counted coords (size .0) in
+      let faces = or-none _ _ (size .1) in
       record {
-        threes = eqb-true _ _ (not-false _ (threes .0));
-        some = at-least-one _ (some .0);
-        few = ltb-false 256 _ (few .0);
+        threes = points .threes;
+        some = points .some;
+        few = points .few;
         few-faces = ltb-false 256 _ (faces .0);
         few-corners = ltb-false 2048 _ (faces .1);
         ordered = rw (not-false (rises 0 ends (length corners)) (a .ordered)) tt;

@@ -7,7 +7,7 @@ use lib.Ieee.{nan, inf, binary64, ofBits, le}
 use Rattle.floats.specs.F64.{zero64}
 use Rattle.floats.specs.Pick.{magnitudeOf}
 use Rattle.places.specs.Stored.{inThrees}
-use Rattle.cell.specs.Refusals.{wild, sizeRefused, endsRefused}
+use Rattle.cell.specs.Refusals.{pointsRefused, wild, sizeRefused, endsRefused}
 
 -- ---- the numbers
 largest-passes : wild (ofBits binary64 0x4270_0000_0000_0000) ≡ false
@@ -45,11 +45,11 @@ minus-infinity-refuses = refl
 
 -- ---- the vertices: 768 coordinates are 256 of them
 most-pass : sizeRefused (replicate 768 zero64) [] [] ≡ false
-unfolding sizeRefused inThrees
+unfolding sizeRefused pointsRefused inThrees
 most-pass = refl
 
 one-more-refuses : sizeRefused (replicate 771 zero64) [] [] ≡ true
-unfolding sizeRefused inThrees
+unfolding sizeRefused pointsRefused inThrees
 one-more-refuses = refl
 
 -- ---- 0 faces need 0 corners

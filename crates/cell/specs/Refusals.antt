@@ -35,14 +35,16 @@ unfoldable pub isEmpty : List ℕ → Bool
 isEmpty face = eqb (length face) 0
 
 -- ---- the rows for a cell
--- 1 size: coordinates not in threes, 0 or over 256 vertices, over 256 faces, over 2,048 corners
-unfoldable pub sizeRefused : List Float → List ℕ → List ℕ → Bool
-sizeRefused coords corners ends =
+-- 1 size, of points of space: coordinates not in threes, 0 or over 256 vertices
+unfoldable pub pointsRefused : List Float → Bool
+pointsRefused coords =
     not (eqb (length coords % 3) 0)
     || (eqb (length (verticesOf coords)) 0
-    || (ltb 256 (length (verticesOf coords))
-    || (ltb 256 (length ends)
-    || ltb 2048 (length corners))))
+    || ltb 256 (length (verticesOf coords)))
+
+-- 1 size: that, or over 256 faces, or over 2,048 corners
+unfoldable pub sizeRefused : List Float → List ℕ → List ℕ → Bool
+sizeRefused coords corners ends = pointsRefused coords || (ltb 256 (length ends) || ltb 2048 (length corners))
 
 -- 2 number: one of the numbers is wild
 unfoldable pub numberRefused : List Float → Bool

@@ -7,7 +7,8 @@ ghost use lib.ListN.{length, getD};
 ghost use lib.Seq.{slice};
 ghost use lib.Dec.{T};
 ghost use Rattle.cell.specs.Faces.{facesOf, rises};
-ghost use Rattle.cell.specs.Refusals.{wild, sizeRefused, numberRefused, endsRefused, indexRefused, emptyRefused, refusalOf};
+ghost use Rattle.cell.specs.Description.{cellOf};
+ghost use Rattle.cell.specs.Refusals.{wild, pointsRefused, sizeRefused, numberRefused, endsRefused, indexRefused, emptyRefused, refusalOf};
 
 // What is known of a cell's shape.
 pub enum Convexity {
@@ -22,6 +23,18 @@ pub struct Cell {
     pub corners: usize,
     pub faces: usize,
     pub convexity: Convexity,
+}
+
+// The description of a cell's lists.
+pub fn describe(coords: &[f64], corners: &[u32], ends: &[u32], convexity: Convexity) -> Cell
+    ensures { λ r. ⌜ r ≡ cellOf (now (coords .entry)) (now (corners .entry)) (now (ends .entry)) convexity ⌝ }
+{
+    Cell {
+        vertices: coords.len() / 3,
+        corners: corners.len(),
+        faces: ends.len(),
+        convexity,
+    }
 }
 
 // A face is shown as its own stretch of the lent corner list.
@@ -58,9 +71,9 @@ pub fn is_wild(x: f64) -> bool
     !(floats::magnitude(x) <= 1099511627776.0)
 }
 
-// Refusal 1: coordinates not in threes, 0 or over 256 vertices, over 256 faces, over 2,048 corners.
-pub fn size_refused(coords: &[f64], corners: &[u32], ends: &[u32]) -> bool
-    ensures { λ r. ⌜ r ≡ sizeRefused (now (coords .entry)) (now (corners .entry)) (now (ends .entry)) ⌝ }
+// Refusal 1, of points of space: coordinates not in threes, 0 or over 256 vertices.
+pub fn points_refused(coords: &[f64]) -> bool
+    ensures { λ r. ⌜ r ≡ pointsRefused (now (coords .entry)) ⌝ }
 {
     let n = coords.len();
     if n % 3 != 0 {
@@ -69,7 +82,14 @@ pub fn size_refused(coords: &[f64], corners: &[u32], ends: &[u32]) -> bool
     if n == 0 {
         return true;
     }
-    if n > 768 {
+    n > 768
+}
+
+// Refusal 1: that, or over 256 faces, or over 2,048 corners.
+pub fn size_refused(coords: &[f64], corners: &[u32], ends: &[u32]) -> bool
+    ensures { λ r. ⌜ r ≡ sizeRefused (now (coords .entry)) (now (corners .entry)) (now (ends .entry)) ⌝ }
+{
+    if points_refused(coords) {
         return true;
     }
     if ends.len() > 256 {

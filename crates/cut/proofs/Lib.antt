@@ -1,3 +1,3 @@
 pub mod Going
 pub mod Facts
-pub mod Worked
+pub mod Computed

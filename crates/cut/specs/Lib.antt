@@ -1,3 +1,2 @@
 pub mod Cut
 pub mod Lent
-pub mod Rows

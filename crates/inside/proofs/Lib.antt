@@ -1,3 +1,3 @@
 pub mod Outlines
 pub mod Marks
-pub mod Worked
+pub mod Computed

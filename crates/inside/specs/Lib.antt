@@ -1,3 +1,2 @@
 pub mod Ray
 pub mod Inside
-pub mod Rows

@@ -5,12 +5,12 @@ use mathlib.Core.Logic.{⊎-elim}
 use mathlib.Core.Bool.{Bool, true, false}
 use mathlib.Core.List.{List, [], _∷_, _++_}
 use Prim.Native.Nat.{ℕ, zero, suc, _+_, _-_, _<_, _≤_, zero-le}
-use native.Mathlib.Nat.{sub-zero, eq-or-lt-of-le}
+use native.Mathlib.Nat.{sub-zero, zero-add, add-zero, add-assoc, eq-or-lt-of-le}
 use native.Mathlib.Omega.{arith}
 use native.Mathlib.Numerals.{add-one}
 use lib.ListN.{length, getD, drop, drop-of-length-le}
 use lib.Seq.{drop-cons}
-use Rattle.places.specs.Loops.{pick, foldList, anyOf, firstFrom}
+use Rattle.places.specs.Loops.{pick, foldList, anyOf, countOf, firstFrom}
 use Rattle.places.specs.Ring.{sides, foldPairs, nextOf}
 use Rattle.places.specs.declared.Found.{Found}
 use Rattle.places.specs.declared.Found.the-variants.{At, Nothing}
@@ -85,6 +85,33 @@ module _ {A : Type 0} {test : A → Bool} {l : List A} {whole : Bool} where
   pub ask-end : {i : ℕ} → Asking test l whole i → length l ≤ i → false ≡ whole
   unfolding anyOf
   ask-end {i} p h = sym (rw (drop-of-length-le l h)) ∙ p .so
+
+-- ---- a loop that counts the elements of which the test holds
+pub record Counting {A : Type 0} (test : A → Bool) (l : List A) (whole : ℕ) (i n : ℕ) : Type 0 where
+  pub within : i ≤ length l
+  pub few : n ≤ i
+  pub so : n + countOf test (drop i l) ≡ whole
+
+module _ {A : Type 0} {test : A → Bool} {l : List A} {whole : ℕ} where
+  pub count-start : countOf test l ≡ whole → Counting test l whole 0 0
+  count-start e = record { within = zero-le; few = zero-le; so = zero-add (countOf test l) ∙ e }
+
+  pub count-turn : {i n n′ : ℕ} (d : A) → Counting test l whole i n → i < length l → n′ ≡ n + pick (test (getD l i d)) 1 0 → Counting test l whole (i + 1) n′
+  unfolding countOf
+  count-turn {i} {n} {n′} d p h e =
+      record {
+        within = omega arith;
+        few = omega (arith, p .few, once (test (getD l i d)));
+        so = rw e (add-assoc n (pick (test (getD l i d)) 1 0) (countOf test (drop (i + 1) l)) ∙ sym (rw (drop-more l i d h)) ∙ p .so);
+      }
+    where
+      once : (b : Bool) → pick {A = ℕ} b 1 0 ≤ 1
+      once true = omega arith
+      once false = omega arith
+
+  pub count-end : {i n : ℕ} → Counting test l whole i n → length l ≤ i → n ≡ whole
+  unfolding countOf
+  count-end {i} {n} p h = sym (add-zero n) ∙ sym (rw (drop-of-length-le l h)) ∙ p .so
 
 -- ---- a loop that looks for the first place
 pub record Seeking (test : ℕ → Bool) (n : ℕ) (whole : Found) (i : ℕ) : Type 0 where

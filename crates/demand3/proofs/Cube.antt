@@ -1,4 +1,4 @@
--- Demand 3 is not empty: it applies to the unit cube, and its premises are needed: a torn cube has another sum about another point. Assumes nothing.
+-- Demand 3 is not empty: it applies to the unit cube, and its premises are needed: a torn cube has another sum about another point.
 use mathlib.Core.Path.{_≡_, refl, sym, _∙_, ap}
 use mathlib.Core.Bool.{true, false}
 use mathlib.Core.List.{List}

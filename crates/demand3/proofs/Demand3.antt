@@ -1,4 +1,4 @@
--- Demand 3 holds of every cell, with what specs/Demand3.antt states beside it. Assumes nothing.
+-- Demand 3 holds of every cell, with what specs/Demand3.antt states beside it.
 use mathlib.Core.Path.{_≡_, refl, sym, _∙_, ap}
 use mathlib.Core.Logic.{_↔_}
 use mathlib.Core.List.{List, [], _∷_, _++_}

@@ -1,4 +1,4 @@
--- The whole number of an f64 is its value times 2 ^ 1074, sign and all, with nothing cut off. Assumes nothing.
+-- The whole number of an f64 is its value times 2 ^ 1074, sign and all, with nothing cut off.
 use mathlib.Core.Path.{_≡_, refl, sym, _∙_, ap}
 use mathlib.Core.Bool.{Bool, true, false, cond}
 use Prim.Native.Nat.{ℕ, zero, suc, _*_, _^_}

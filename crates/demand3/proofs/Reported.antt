@@ -1,4 +1,4 @@
--- What the report's `short 0` and `closed yes` say, and what follows from them by demand 3. Assumes nothing.
+-- What the report's `short 0` and `closed yes` say, and what follows from them by demand 3.
 use mathlib.Core.Path.{_≡_, refl}
 use mathlib.Core.Bool.{Bool, true, false, _&&_}
 use mathlib.Core.List.{List, [], _∷_}

@@ -1,5 +1,5 @@
 -- Faces that are alike: every weight that changes its sign with the direction has the same sum over their sides. Then they are closed together,
--- have the same doubled area vector, and run each side as often, the runs back taken off. Assumes nothing.
+-- have the same doubled area vector, and run each side as often, the runs back taken off.
 use mathlib.Core.Path.{_≡_, refl, sym, _∙_, ap}
 use mathlib.Core.List.{List, [], _∷_, _++_}
 use Prim.Native.Nat.{ℕ, _+_}

@@ -1,4 +1,4 @@
--- Cutting one corner off a ring keeps the sum over sides of every weight that changes its sign with the direction. Assumes nothing.
+-- Cutting one corner off a ring keeps the sum over sides of every weight that changes its sign with the direction.
 use mathlib.Core.Path.{_≡_, refl, sym, _∙_, ap}
 use mathlib.Core.Bool.{Bool, true, false}
 use mathlib.Core.List.{List, [], _∷_, _++_, append-nil}

@@ -1,4 +1,4 @@
--- The exact sum of the triple products of closed triangles is the same about every reference point. Assumes nothing.
+-- The exact sum of the triple products of closed triangles is the same about every reference point.
 use mathlib.Core.Path.{_≡_, refl, sym, _∙_}
 use mathlib.Core.List.{List, [], _∷_}
 use Prim.Native.Nat.{ℕ}

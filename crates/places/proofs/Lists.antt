@@ -1,4 +1,4 @@
--- Lists: a shift to the left, a fill, a list without an element, what is written from the front, and what holds at each place. Assumes nothing.
+-- Lists: a shift to the left, a fill, a list without an element, what is written from the front, and what holds at each place.
 use mathlib.Core.Path.{_≡_, refl, sym, ap, _∙_}
 use mathlib.Core.List.{List, [], _∷_, _++_, map, append-assoc, append-nil}
 use Prim.Native.Nat.{ℕ, zero, suc, _+_, _-_, _<_, _≤_, min}

@@ -1,4 +1,4 @@
--- A list is turned round in place: n / 2 times the places i and n - 1 - i change what they hold, and that gives `reverse`. Assumes nothing.
+-- A list is turned round in place: n / 2 times the places i and n - 1 - i change what they hold, and that gives `reverse`.
 use mathlib.Core.Path.{_≡_, refl, sym, _∙_}
 use mathlib.Core.Logic.{⊎-elim, _≢_}
 use mathlib.Core.List.{List, [], _∷_, reverse, reverse-cons}

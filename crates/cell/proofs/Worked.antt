@@ -3,44 +3,43 @@ use mathlib.Core.Path.{_≡_, refl}
 use mathlib.Core.Bool.{true, false}
 use mathlib.Core.List.{[], _∷_}
 use lib.ListN.{replicate}
-use lib.Ieee.{nan, inf, binary64, ofBits, le}
+use lib.Ieee.{nan, inf, binary64, ofBits, le, neg}
 use Rattle.floats.specs.F64.{zero64}
-use Rattle.floats.specs.Pick.{magnitudeOf}
 use Rattle.places.specs.Stored.{inThrees}
 use Rattle.cell.specs.Refusals.{pointsRefused, wild, sizeRefused, endsRefused}
 
 -- ---- the numbers
 largest-passes : wild (ofBits binary64 0x4270_0000_0000_0000) ≡ false
-unfolding ofBits wild magnitudeOf le
+unfolding ofBits wild neg le
 largest-passes = refl
 
 next-refuses : wild (ofBits binary64 0x4270_0000_0000_0001) ≡ true
-unfolding ofBits wild magnitudeOf le
+unfolding ofBits wild neg le
 next-refuses = refl
 
 -- −2 ^ 40, and the next f64 below it
 least-passes : wild (ofBits binary64 0xc270_0000_0000_0000) ≡ false
-unfolding ofBits wild magnitudeOf le
+unfolding ofBits wild neg le
 least-passes = refl
 
 below-refuses : wild (ofBits binary64 0xc270_0000_0000_0001) ≡ true
-unfolding ofBits wild magnitudeOf le
+unfolding ofBits wild neg le
 below-refuses = refl
 
 minus-zero-passes : wild (ofBits binary64 0x8000_0000_0000_0000) ≡ false
-unfolding ofBits wild magnitudeOf le
+unfolding ofBits wild neg le
 minus-zero-passes = refl
 
 nan-refuses : wild nan ≡ true
-unfolding wild magnitudeOf le
+unfolding ofBits wild neg le
 nan-refuses = refl
 
 infinity-refuses : wild (inf false) ≡ true
-unfolding ofBits wild magnitudeOf le
+unfolding ofBits wild neg le
 infinity-refuses = refl
 
 minus-infinity-refuses : wild (inf true) ≡ true
-unfolding ofBits wild magnitudeOf le
+unfolding ofBits wild neg le
 minus-infinity-refuses = refl
 
 -- ---- the vertices: 768 coordinates are 256 of them

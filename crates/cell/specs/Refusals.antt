@@ -1,13 +1,12 @@
 -- What is refused, as document 01's table has it: a number and what it is refused for, and the first row that applies decides.
 use mathlib.Core.Path.{_≡_}
-use mathlib.Core.Bool.{Bool, not, _||_}
+use mathlib.Core.Bool.{Bool, not, _&&_, _||_}
 use mathlib.Core.List.{List, [], _∷_}
 use Prim.Native.Nat.{ℕ, _%_, _≤_}
 use lib.Dec.{T, leb, ltb, eqb}
 use lib.ListN.{length}
-use lib.Ieee.{Float, binary64, ofBits, le}
+use lib.Ieee.{Float, binary64, ofBits, le, neg}
 use Rattle.places.specs.Loops.{pick, anyOf}
-use Rattle.floats.specs.Pick.{magnitudeOf}
 use Rattle.flat.specs.Points.{verticesOf, Inside}
 use Rattle.cell.specs.Faces.{facesOf, rises}
 
@@ -22,9 +21,9 @@ firstRow (row ∷ rows) =
 abbrev pub limit : Float
 limit = ofBits binary64 0x4270_0000_0000_0000
 
--- a number is NaN, infinite or above 2 ^ 40 in magnitude; −0 and 2 ^ 40 itself are not
+-- a number is NaN, infinite or above 2 ^ 40 in magnitude: it is not from −2 ^ 40 to 2 ^ 40, with which a NaN does not compare; −0 and 2 ^ 40 itself are
 unfoldable pub wild : Float → Bool
-wild x = not (le (magnitudeOf x) limit)
+wild x = not (le (neg limit) x && le x limit)
 
 -- a number is not below n
 abbrev pub notBelow : ℕ → ℕ → Bool

@@ -68,7 +68,11 @@ pub fn face_by_number<'a>(corners: &'a [u32], ends: &[u32], k: usize) -> &'a [u3
 pub fn is_wild(x: f64) -> bool
     ensures { λ r. ⌜ r ≡ wild x ⌝ }
 {
-    !(floats::magnitude(x) <= 1099511627776.0)
+    if x >= -1099511627776.0 {
+        !(x <= 1099511627776.0)
+    } else {
+        true
+    }
 }
 
 // Refusal 1, of points of space: coordinates not in threes, 0 or over 256 vertices.

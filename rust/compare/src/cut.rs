@@ -1,7 +1,7 @@
 //! `compare cut`: random faces, cut by the port and by the Rust.
 
 use crate::faces::{self, Face};
-use crate::limits::MOST_CORNERS;
+use crate::limits::MOST_VERTICES;
 use crate::random::Random;
 use crate::tally::Tally;
 use crate::{Outcome, number_or, ours, shrink};
@@ -18,7 +18,7 @@ type Cutter = fn(&[f64], &[u32], &mut [[u32; 3]]) -> usize;
 pub fn run(words: &[String]) -> Result<Outcome, String> {
     let count = number_or(words, 0, 100_000)?;
     let seed = number_or(words, 1, 1)?;
-    let most_vertices = number_or(words, 2, MOST_CORNERS as u64)? as usize;
+    let most_vertices = (number_or(words, 2, MOST_VERTICES as u64)? as usize).min(MOST_VERTICES);
     if most_vertices == 0 {
         return Err("a face needs a vertex".to_string());
     }

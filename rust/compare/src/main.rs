@@ -1,8 +1,10 @@
 //! Runs the port and the Rust on the same inputs.
 
+mod bench_cells;
 mod bench_cut;
 mod cells;
 mod check_cells;
+mod compare_cells;
 mod cut;
 mod faces;
 mod limits;
@@ -24,7 +26,7 @@ pub enum Outcome {
 /// A command takes the words after its name, and says why when it cannot run.
 type Command = fn(&[String]) -> Result<Outcome, String>;
 
-const COMMANDS: [(&str, Command, &str); 3] = [
+const COMMANDS: [(&str, Command, &str); 5] = [
     (
         "cut",
         cut::run,
@@ -37,8 +39,18 @@ const COMMANDS: [(&str, Command, &str); 3] = [
     ),
     (
         "cells",
+        compare_cells::run,
+        "[N] [SEED]           every entry on N random cells and on damaged copies",
+    ),
+    (
+        "bench-cells",
+        bench_cells::run,
+        "               time volume and containment of a cube and of a cell of 60 faces",
+    ),
+    (
+        "check-cells",
         check_cells::run,
-        "[N] [SEED]           check the random cells and the damaged copies themselves",
+        "[N] [SEED]     check the random cells and the damaged copies themselves",
     ),
 ];
 

@@ -1,0 +1,37 @@
+-- A number as text, and what a lent list of bytes holds after a text was put there.
+use Prim.Native.Nat.{ℕ, zero, suc, _+_, _/_, _%_}
+use mathlib.Core.Path.{_≡_}
+use mathlib.Core.List.{List, [], _∷_, _++_}
+use mathlib.Core.Bool.{Bool, true, false}
+use lib.ListN.{length}
+use lib.Seq.{sets}
+use lib.Dec.{ltb}
+use Rattle.places.specs.Loops.{pick}
+
+-- the text stands in the list from at on, all else is as it was, and next is past it
+pub record Put (before : List ℕ) (at : ℕ) (text : List ℕ) (after : List ℕ) (next : ℕ) : Type 0 where
+  pub holds : after ≡ sets before at text
+  pub ends : next ≡ at + length text
+
+-- the decimal digits of n, of which there are k at most
+unfoldable pub decimal : ℕ → ℕ → List ℕ
+decimal zero n = []
+decimal (suc k) n = pick (ltb n 10) ((48 + n) ∷ []) (decimal k (n / 10) ++ ((48 + n % 10) ∷ []))
+
+-- the decimal digits of a number of 64 bits
+abbrev pub decimalOf : ℕ → List ℕ
+decimalOf n = decimal 20 n
+
+-- 0 to 9, then A to F
+abbrev pub digitOf : ℕ → ℕ
+digitOf d = pick (ltb d 10) (48 + d) (55 + d)
+
+-- the last k digits of n in base 16
+unfoldable pub hexOf : ℕ → ℕ → List ℕ
+hexOf zero n = []
+hexOf (suc k) n = hexOf k (n / 16) ++ (digitOf (n % 16) ∷ [])
+
+-- yes, no
+abbrev pub yesOrNo : Bool → List ℕ
+yesOrNo true = 121 ∷ 101 ∷ 115 ∷ []
+yesOrNo false = 110 ∷ 111 ∷ []

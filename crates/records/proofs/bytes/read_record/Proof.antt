@@ -1,0 +1,17 @@
+use borrow.Author.Needs.{needs}
+use Rattle.records.proofs.bytes.read_record.Statement.{statement}
+use Rattle.records.proofs.bytes.read_record.Tie as tie
+
+pub read-record-spec : {M : Type 1} → statement M
+read-record-spec =
+    tie.close
+    (tie.spec
+    (λ c. search needs)
+    (λ c κs. search needs)
+    (λ c. search needs)
+    (λ c κs. search needs)
+    (λ c. search needs)
+    (λ c κs. search needs)
+    (λ c. search needs)
+    (λ c κs. search needs)
+    (λ c. cc))

@@ -1,0 +1,24 @@
+use mathlib.Core.Path.{_≡_, ap, _∙_}
+use native.Mathlib.Omega.{arith}
+use borrow.Author.Tests.{eq-eqb, ne-eqb}
+use Rattle.records.specs.Tally.{faceEndOf, faceEndWhy, endFine, refusedOf}
+use Rattle.records.proofs.Tests.{why-room}
+use borrow.Author.Needs.{needs}
+use Rattle.records.proofs.tally.Tally.face_end.Statement.{statement}
+use Rattle.records.proofs.tally.Tally.face_end.Tie as tie
+
+pub face-end-spec : {M : Type 1} → statement M
+unfolding faceEndOf
+face-end-spec =
+    tie.close
+    (tie.spec
+    (λ c κs. search needs)
+    (λ c κs. search needs)
+    (λ c. search needs)
+    (λ c. let a = c .before .before .before .before .before .args in let e : faceEndWhy (a .self) (a .r) ≡ 0 = cc in let n = why-room (endFine (a .r)) (a .self .faces) 256 e in omega arith)
+    (λ c. let a = c .before .before .before .before .before .args in let e : faceEndWhy (a .self) (a .r) ≡ 0 = cc in let n = why-room (endFine (a .r)) (a .self .faces) 256 e in omega arith)
+    (λ c. let a = c .before .before .before .before .before .args in let e : faceEndWhy (a .self) (a .r) ≡ 0 = cc in let n = why-room (endFine (a .r)) (a .self .faces) 256 e in omega arith)
+    (λ c. search needs)
+    (λ c. let a = c .before .before .before .before .before .args in let e : faceEndWhy (a .self) (a .r) ≡ 0 = cc in (simp (eq-eqb _ _ e), simp (eq-eqb _ _ e)))
+    (λ c κs. search needs)
+    (λ c. let a = c .before .before .before .before .before .args in let w : c .before .before .why .result ≡ faceEndWhy (a .self) (a .r) = cc in let no = ne-eqb (faceEndWhy (a .self) (a .r)) 0 (λ z. c .before .if1 .left (w ∙ z)) in (simp no (c .refused .ensures ∙ ap (refusedOf (a .self)) w), simp no)))

@@ -1,0 +1,116 @@
+-- The report: what each record makes of the cell so far, and the lines for a list of bytes.
+use Prim.Native.Nat.{ℕ, zero, suc, _+_, _-_, _*_, _/_}
+use mathlib.Core.List.{List, [], _++_}
+use mathlib.Core.Bool.{Bool}
+use lib.ListN.{length, take, drop}
+use lib.Seq.{sets}
+use lib.Dec.{eqb}
+use lib.Ieee.{Float}
+use Rattle.places.specs.Loops.{pick}
+use Rattle.geometry.specs.declared.Surveyed.{Surveyed}
+use Rattle.geometry.specs.declared.Surveyed.the-variants.{Is, Refused}
+use Rattle.geometry.specs.Survey.{surveyAnswer}
+use Rattle.records.specs.declared.bytes.Rec.{Rec}
+use Rattle.records.specs.declared.tally.Tally.{Tally}
+use Rattle.records.specs.Bytes.{recordOf}
+use Rattle.records.specs.Tally.{newOf, tallyOf, newCoords, newCorners, newEnds, newQueries}
+use Rattle.lines.specs.Lines.{cellLine, refusedLine, tailLine}
+
+-- the cell so far: the tally, and the lists that its records have filled
+pub record Held : Type 0 where
+  pub tally : Tally
+  pub coords : List Float
+  pub corners : List ℕ
+  pub ends : List ℕ
+  pub queries : List Float
+
+-- cell n before its first record: all lists are empty
+abbrev pub freshOf : ℕ → Held
+freshOf n = record { tally = newOf n; coords = []; corners = []; ends = []; queries = [] }
+
+-- after a record: each list with what the record adds
+abbrev pub grownOf : Held → Rec → Held
+grownOf h r =
+    record {
+      tally = tallyOf (h .tally) r;
+      coords = h .coords ++ newCoords (h .tally) r;
+      corners = h .corners ++ newCorners (h .tally) r;
+      ends = h .ends ++ newEnds (h .tally) r;
+      queries = h .queries ++ newQueries (h .tally) r;
+    }
+
+-- the line for what the survey answers
+abbrev pub surveyLine : ℕ → ℕ → ℕ → Surveyed → List ℕ
+surveyLine number verts faces (Is s) = cellLine number verts faces s
+surveyLine number verts faces (Refused why) = refusedLine number why
+
+-- a cell's line: a record's refusal decides, and where there is none the survey of the cell
+unfoldable pub lineOf : Held → List ℕ
+lineOf h =
+    pick (eqb (h .tally .refusal) 0)
+    (surveyLine (h .tally .number) (h .tally .verts) (h .tally .faces) (surveyAnswer (h .coords) (h .corners) (h .ends) (h .queries)))
+    (refusedLine (h .tally .number) (h .tally .refusal))
+
+-- a record's turn: any record of kind 4 ends the cell, and the next one starts anew
+unfoldable pub turnOf : Held → Rec → Held
+turnOf h r = pick (eqb (r .kind) 4) (freshOf (h .tally .number + 1)) (grownOf h r)
+
+-- and what it prints
+unfoldable pub saysOf : Held → Rec → List ℕ
+saysOf h r = pick (eqb (r .kind) 4) (lineOf (grownOf h r)) []
+
+-- the cell after the first k records of s
+unfoldable pub after : ℕ → Held → List ℕ → Held
+after zero h s = h
+after (suc k) h s = turnOf (after k h s) (recordOf s (k * 32))
+
+-- the lines of the first k records of s
+unfoldable pub linesOf : ℕ → Held → List ℕ → List ℕ
+linesOf zero h s = []
+linesOf (suc k) h s = linesOf k h s ++ saysOf (after k h s) (recordOf s (k * 32))
+
+-- the end of the input: bytes after the last cell end are refused, be they whole records or not
+abbrev pub tailOf : Bool → ℕ → List ℕ
+tailOf begun left = pick begun tailLine (pick (eqb left 0) [] tailLine)
+
+-- the lines for the bytes s, where the cell so far is h
+unfoldable pub reportFrom : Held → List ℕ → List ℕ
+reportFrom h s = linesOf (length s / 32) h s ++ tailOf (after (length s / 32) h s .tally .begun) (length s - length s / 32 * 32)
+
+-- the lines for these bytes
+abbrev pub reportOf : List ℕ → List ℕ
+reportOf s = reportFrom (freshOf 1) s
+
+-- ---- the lists that are lent
+-- the tally, and the part of each lent list that its records have filled
+abbrev pub heldOf : Tally → List Float → List ℕ → List ℕ → List Float → Held
+heldOf t a b c d = record { tally = t; coords = take (t .verts * 3) a; corners = take (t .corners) b; ends = take (t .faces) c; queries = take (t .queries * 3) d }
+
+-- the lent lists, whole
+pub record Lent : Type 0 where
+  pub coords : List Float
+  pub corners : List ℕ
+  pub ends : List ℕ
+  pub queries : List Float
+
+abbrev pub lentOf : List Float → List ℕ → List ℕ → List Float → Lent
+lentOf a b c d = record { coords = a; corners = b; ends = c; queries = d }
+
+-- what a record adds is stored behind what the lists hold of the cell, and all else stays
+abbrev pub storedOf : Tally → Lent → Rec → Lent
+storedOf t l r =
+    record {
+      coords = sets (l .coords) (t .verts * 3) (newCoords t r);
+      corners = sets (l .corners) (t .corners) (newCorners t r);
+      ends = sets (l .ends) (t .faces) (newEnds t r);
+      queries = sets (l .queries) (t .queries * 3) (newQueries t r);
+    }
+
+-- the lent lists after the first k records of s
+unfoldable pub storedAfter : ℕ → Held → Lent → List ℕ → Lent
+storedAfter zero h l s = l
+storedAfter (suc k) h l s = storedOf (after k h s .tally) (storedAfter k h l s) (recordOf s (k * 32))
+
+-- n bytes from a place on moved to the front
+abbrev pub movedOf : List ℕ → ℕ → ℕ → List ℕ
+movedOf b from n = take n (drop from b) ++ drop n b

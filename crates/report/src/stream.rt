@@ -1,0 +1,73 @@
+// A stream that comes in blocks: the bytes of a record that is not whole yet stay at the front.
+ghost use mathlib.Core.Path.{_≡_};
+ghost use Prim.Native.Nat.{_+_, _-_, _*_, _/_, _^_, _≤_, _<_};
+ghost use lib.ListN.{length, take};
+ghost use Rattle.lines.specs.Text.{Put};
+ghost use Rattle.records.specs.Tally.{Sized, Fits};
+ghost use Rattle.report.specs.Report.{heldOf, after, linesOf, tailOf, movedOf, lentOf, storedAfter};
+use crate::block::take_block;
+use records::tally::Tally;
+
+// Moves the bytes from `from` up to `to` to the front.
+fn to_front(b: &mut [u8], from: usize, to: usize)
+    requires { ⌜ (from ≤ to) × (to ≤ length (now b)) ⌝ }
+    ensures { λ _. ⌜ now (b .exit) ≡ movedOf (now (b .entry)) from (to - from) ⌝ }
+{
+    let n = to - from;
+    let mut i = 0;
+    while i < n {
+        b[i] = b[from + i];
+        i += 1;
+    }
+}
+
+// After a block: the tally, how many bytes wait at its front, and how much is written.
+pub struct Fed {
+    pub tally: Tally,
+    pub have: usize,
+    pub made: usize,
+}
+
+// The first `total` bytes of the block are taken.
+pub fn feed(
+    t: Tally,
+    total: usize,
+    block: &mut [u8],
+    coords: &mut [f64],
+    corners: &mut [u32],
+    ends: &mut [u32],
+    queries: &mut [f64],
+    out: &mut [u8],
+) -> Fed
+    requires { ⌜ Sized (now coords) (now corners) (now ends) (now queries) ⌝ }
+    requires { ⌜ Fits t ⌝ }
+    requires { ⌜ (t .number + total < 2 ^ 64) × (256 * (total / 32) ≤ length (now out)) × (total ≤ length (now block)) ⌝ }
+    ensures { λ d. ⌜ heldOf (d .tally) (now (coords .exit)) (now (corners .exit)) (now (ends .exit)) (now (queries .exit)) ≡ after (total / 32) (heldOf t (now (coords .entry)) (now (corners .entry)) (now (ends .entry)) (now (queries .entry))) (take total (now (block .entry))) ⌝ }
+    ensures { λ _. ⌜ lentOf (now (coords .exit)) (now (corners .exit)) (now (ends .exit)) (now (queries .exit)) ≡ storedAfter (total / 32) (heldOf t (now (coords .entry)) (now (corners .entry)) (now (ends .entry)) (now (queries .entry))) (lentOf (now (coords .entry)) (now (corners .entry)) (now (ends .entry)) (now (queries .entry))) (take total (now (block .entry))) ⌝ }
+    ensures { λ d. ⌜ Put (now (out .entry)) 0 (linesOf (total / 32) (heldOf t (now (coords .entry)) (now (corners .entry)) (now (ends .entry)) (now (queries .entry))) (take total (now (block .entry)))) (now (out .exit)) (d .made) ⌝ }
+    ensures { λ d. ⌜ (d .have ≡ total - total / 32 * 32) × (now (block .exit) ≡ movedOf (now (block .entry)) (total / 32 * 32) (total - total / 32 * 32)) ⌝ }
+    ensures { λ d. ⌜ Fits (d .tally) × (d .tally .number ≤ t .number + total / 32) × (d .made ≤ length (now (out .entry))) ⌝ }
+{
+    let d = take_block(t, &block[..total], coords, corners, ends, queries, out);
+    let used = total / 32 * 32;
+    to_front(block, used, total);
+    let tally = d.tally;
+    let made = d.made;
+    let have = total - used;
+    Fed { tally, have, made }
+}
+
+// At the end of the input, with `have` bytes that are no whole record.
+pub fn finish(t: Tally, have: usize, out: &mut [u8]) -> usize
+    requires { ⌜ 15 ≤ length (now out) ⌝ }
+    ensures { λ r. ⌜ Put (now (out .entry)) 0 (tailOf (t .begun) have) (now (out .exit)) r ⌝ }
+    ensures { λ r. ⌜ r ≤ length (now (out .entry)) ⌝ }
+{
+    if t.begun {
+        return lines::put_tail(out, 0);
+    }
+    if have == 0 {
+        return 0;
+    }
+    lines::put_tail(out, 0)
+}

@@ -1,0 +1,26 @@
+use mathlib.Core.Path.{_≡_}
+use Prim.Native.Nat.{_-_}
+use lib.ListN.{length}
+use borrow.Author.Needs.{needs}
+use Rattle.vectors.proofs.put_corners.Statement.{statement}
+use Rattle.vectors.proofs.put_corners.Tie as tie
+
+pub put-corners-spec : {M : Type 1} → statement M
+put-corners-spec =
+    tie.close
+    (tie.spec
+    (λ ws out₀ n m i₀ out i. (n ≡ length ws) × (m ≡ length out₀) × (length out ≡ length out₀))
+    (λ ws out₀ n m i₀ out i. n - i)
+    (λ c. search needs)
+    (λ c. search needs)
+    (λ c. search needs)
+    (λ c κs. search needs)
+    (λ c. search needs)
+    (λ c. search needs)
+    (λ c. search needs)
+    (λ c. search needs)
+    (λ c. search needs)
+    (λ c. search needs)
+    (λ c. search needs)
+    (λ c. search needs)
+    (λ c. search needs))

@@ -4,7 +4,7 @@ use std::env;
 use std::path::PathBuf;
 
 /// The name of the library: the archive is called libNAME.a.
-const LIBRARY: &str = "probe";
+const LIBRARY: &str = "abi";
 
 /// The environment variable that names the folder with the archive.
 const FOLDER_VARIABLE: &str = "WEGRUSAMT_LIB";

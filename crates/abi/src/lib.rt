@@ -1,55 +1,216 @@
-// The leaves on f64 under C names, each with the promise of the function that it calls.
+// The public entries under C names. Only numbers and lent lists pass: an entry answers the refusal's number, 0 for none, and writes its values at the front of a lent list.
+// A list too short for them is refusal 6, after all others; a refused call leaves every list as it was.
+pub mod cells;
+pub mod leaves;
+pub mod lists;
+
 ghost use mathlib.Core.Path.{_≡_};
-ghost use lib.Ieee.{binary64, ofBits, toBits};
-ghost use Rattle.floats.specs.Pick.{magnitudeOf, leastOf, largestOf};
-ghost use Rattle.floats.specs.Root.{rootOf};
-ghost use Rattle.floats.specs.Length.{lengthOf};
+ghost use mathlib.Core.List.{[], _∷_};
+ghost use lib.ListN.{length};
+ghost use Rattle.geometry.specs.declared.Surveyed.{Surveyed};
+ghost use Rattle.abi.specs.Answers.{roomCode, front, one, numberCode, numberInto, truthCode, truthInto, countCode, countInto, placeCode, placeInto, extentCode, extentInto, planePlaceCode, planePlaceInto, planeExtentCode, planeExtentInto, doneCode, surveyedCode, surveyedCounts, surveyedVolume};
 
-#[no_mangle]
-pub extern "C" fn wegrusamt_magnitude(x: f64) -> f64
-    ensures { λ r. ⌜ r ≡ magnitudeOf x ⌝ }
+// 1 for yes, 0 for no.
+fn one_if(b: bool) -> usize
+    ensures { λ r. ⌜ r ≡ one b ⌝ }
 {
-    floats::magnitude(x)
+    if b { 1 } else { 0 }
 }
 
-#[no_mangle]
-pub extern "C" fn wegrusamt_least(a: f64, b: f64) -> f64
-    ensures { λ r. ⌜ r ≡ leastOf a b ⌝ }
+// Numbers at the front of a list, if it has the room.
+fn put_one(x: f64, out: &mut [f64]) -> u8
+    ensures code { λ r. ⌜ r ≡ roomCode 1 (length (now (out .entry))) ⌝ }
+    ensures written { λ _. ⌜ now (out .exit) ≡ front (x ∷ []) (now (out .entry)) ⌝ }
 {
-    floats::least(a, b)
+    if out.len() < 1 {
+        return 6;
+    }
+    out[0] = x;
+    0
 }
 
-#[no_mangle]
-pub extern "C" fn wegrusamt_largest(a: f64, b: f64) -> f64
-    ensures { λ r. ⌜ r ≡ largestOf a b ⌝ }
+fn put_two(x: f64, y: f64, out: &mut [f64]) -> u8
+    ensures code { λ r. ⌜ r ≡ roomCode 2 (length (now (out .entry))) ⌝ }
+    ensures written { λ _. ⌜ now (out .exit) ≡ front (x ∷ y ∷ []) (now (out .entry)) ⌝ }
 {
-    floats::largest(a, b)
+    if out.len() < 2 {
+        return 6;
+    }
+    out[0] = x;
+    out[1] = y;
+    0
 }
 
-#[no_mangle]
-pub extern "C" fn wegrusamt_root(x: f64) -> f64
-    ensures { λ r. ⌜ r ≡ rootOf binary64 x ⌝ }
+fn put_three(x: f64, y: f64, z: f64, out: &mut [f64]) -> u8
+    ensures code { λ r. ⌜ r ≡ roomCode 3 (length (now (out .entry))) ⌝ }
+    ensures written { λ _. ⌜ now (out .exit) ≡ front (x ∷ y ∷ z ∷ []) (now (out .entry)) ⌝ }
 {
-    floats::root(x)
+    if out.len() < 3 {
+        return 6;
+    }
+    out[0] = x;
+    out[1] = y;
+    out[2] = z;
+    0
 }
 
-#[no_mangle]
-pub extern "C" fn wegrusamt_length(x: f64, y: f64) -> f64
-    ensures { λ r. ⌜ r ≡ lengthOf x y ⌝ }
+fn put_four(x: f64, y: f64, u: f64, v: f64, out: &mut [f64]) -> u8
+    ensures code { λ r. ⌜ r ≡ roomCode 4 (length (now (out .entry))) ⌝ }
+    ensures written { λ _. ⌜ now (out .exit) ≡ front (x ∷ y ∷ u ∷ v ∷ []) (now (out .entry)) ⌝ }
 {
-    floats::length(x, y)
+    if out.len() < 4 {
+        return 6;
+    }
+    out[0] = x;
+    out[1] = y;
+    out[2] = u;
+    out[3] = v;
+    0
 }
 
-#[no_mangle]
-pub extern "C" fn wegrusamt_pattern(x: f64) -> u64
-    ensures { λ r. ⌜ r ≡ toBits binary64 x ⌝ }
+fn put_six(x: f64, y: f64, z: f64, u: f64, v: f64, w: f64, out: &mut [f64]) -> u8
+    ensures code { λ r. ⌜ r ≡ roomCode 6 (length (now (out .entry))) ⌝ }
+    ensures written { λ _. ⌜ now (out .exit) ≡ front (x ∷ y ∷ z ∷ u ∷ v ∷ w ∷ []) (now (out .entry)) ⌝ }
 {
-    floats::pattern(x)
+    if out.len() < 6 {
+        return 6;
+    }
+    out[0] = x;
+    out[1] = y;
+    out[2] = z;
+    out[3] = u;
+    out[4] = v;
+    out[5] = w;
+    0
 }
 
-#[no_mangle]
-pub extern "C" fn wegrusamt_of_pattern(b: u64) -> f64
-    ensures { λ r. ⌜ r ≡ ofBits binary64 b ⌝ }
+// A count at the front of a list, if it has the room.
+fn put_whole(n: usize, out: &mut [usize]) -> u8
+    ensures code { λ r. ⌜ r ≡ roomCode 1 (length (now (out .entry))) ⌝ }
+    ensures written { λ _. ⌜ now (out .exit) ≡ front (n ∷ []) (now (out .entry)) ⌝ }
 {
-    floats::of_pattern(b)
+    if out.len() < 1 {
+        return 6;
+    }
+    out[0] = n;
+    0
+}
+
+// An answer: the refusal, or its values at the front of the list.
+fn put_number(a: geometry::Number, out: &mut [f64]) -> u8
+    ensures code { λ r. ⌜ r ≡ numberCode a (length (now (out .entry))) ⌝ }
+    ensures written { λ _. ⌜ now (out .exit) ≡ numberInto a (now (out .entry)) ⌝ }
+{
+    match a {
+        geometry::Number::Is(x) => put_one(x, out),
+        geometry::Number::Refused(why) => why,
+    }
+}
+
+fn put_truth(a: geometry::Truth, out: &mut [usize]) -> u8
+    ensures code { λ r. ⌜ r ≡ truthCode a (length (now (out .entry))) ⌝ }
+    ensures written { λ _. ⌜ now (out .exit) ≡ truthInto a (now (out .entry)) ⌝ }
+{
+    match a {
+        geometry::Truth::Is(b) => put_whole(one_if(b), out),
+        geometry::Truth::Refused(why) => why,
+    }
+}
+
+fn put_count(a: geometry::Count, out: &mut [usize]) -> u8
+    ensures code { λ r. ⌜ r ≡ countCode a (length (now (out .entry))) ⌝ }
+    ensures written { λ _. ⌜ now (out .exit) ≡ countInto a (now (out .entry)) ⌝ }
+{
+    match a {
+        geometry::Count::Is(n) => put_whole(n, out),
+        geometry::Count::Refused(why) => why,
+    }
+}
+
+fn put_place(a: geometry::Place, out: &mut [f64]) -> u8
+    ensures code { λ r. ⌜ r ≡ placeCode a (length (now (out .entry))) ⌝ }
+    ensures written { λ _. ⌜ now (out .exit) ≡ placeInto a (now (out .entry)) ⌝ }
+{
+    match a {
+        geometry::Place::Is(p) => put_three(p.x, p.y, p.z, out),
+        geometry::Place::Refused(why) => why,
+    }
+}
+
+fn put_extent(a: geometry::Extent, out: &mut [f64]) -> u8
+    ensures code { λ r. ⌜ r ≡ extentCode a (length (now (out .entry))) ⌝ }
+    ensures written { λ _. ⌜ now (out .exit) ≡ extentInto a (now (out .entry)) ⌝ }
+{
+    match a {
+        geometry::Extent::Is(b) => put_six(
+            b.low.x,
+            b.low.y,
+            b.low.z,
+            b.high.x,
+            b.high.y,
+            b.high.z,
+            out,
+        ),
+        geometry::Extent::Refused(why) => why,
+    }
+}
+
+fn put_plane_place(a: geometry::PlanePlace, out: &mut [f64]) -> u8
+    ensures code { λ r. ⌜ r ≡ planePlaceCode a (length (now (out .entry))) ⌝ }
+    ensures written { λ _. ⌜ now (out .exit) ≡ planePlaceInto a (now (out .entry)) ⌝ }
+{
+    match a {
+        geometry::PlanePlace::Is(p) => put_two(p.x, p.y, out),
+        geometry::PlanePlace::Refused(why) => why,
+    }
+}
+
+fn put_plane_extent(a: geometry::PlaneExtent, out: &mut [f64]) -> u8
+    ensures code { λ r. ⌜ r ≡ planeExtentCode a (length (now (out .entry))) ⌝ }
+    ensures written { λ _. ⌜ now (out .exit) ≡ planeExtentInto a (now (out .entry)) ⌝ }
+{
+    match a {
+        geometry::PlaneExtent::Is(b) => put_four(b.low.x, b.low.y, b.high.x, b.high.y, out),
+        geometry::PlaneExtent::Refused(why) => why,
+    }
+}
+
+fn done_code(a: geometry::Done) -> u8
+    ensures { λ r. ⌜ r ≡ doneCode a ⌝ }
+{
+    match a {
+        geometry::Done::Is => 0,
+        geometry::Done::Refused(why) => why,
+    }
+}
+
+// A survey goes into two lists, and into neither unless both have the room.
+fn put_surveyed(a: geometry::Surveyed, counts: &mut [usize], volume: &mut [f64]) -> u8
+    ensures code { λ r. ⌜ r ≡ surveyedCode a (length (now (counts .entry))) (length (now (volume .entry))) ⌝ }
+    ensures counted { λ _. ⌜ now (counts .exit) ≡ surveyedCounts a (length (now (volume .entry))) (now (counts .entry)) ⌝ }
+    ensures measured { λ _. ⌜ now (volume .exit) ≡ surveyedVolume a (length (now (counts .entry))) (now (volume .entry)) ⌝ }
+{
+    match a {
+        geometry::Surveyed::Is(s) => put_survey(s, counts, volume),
+        geometry::Surveyed::Refused(why) => why,
+    }
+}
+
+fn put_survey(s: geometry::Survey, counts: &mut [usize], volume: &mut [f64]) -> u8
+    ensures code { λ r. ⌜ r ≡ surveyedCode (Surveyed.Is s) (length (now (counts .entry))) (length (now (volume .entry))) ⌝ }
+    ensures counted { λ _. ⌜ now (counts .exit) ≡ surveyedCounts (Surveyed.Is s) (length (now (volume .entry))) (now (counts .entry)) ⌝ }
+    ensures measured { λ _. ⌜ now (volume .exit) ≡ surveyedVolume (Surveyed.Is s) (length (now (counts .entry))) (now (volume .entry)) ⌝ }
+{
+    if counts.len() < 4 {
+        return 6;
+    }
+    if volume.len() < 1 {
+        return 6;
+    }
+    counts[0] = s.triangles;
+    counts[1] = one_if(s.closed);
+    counts[2] = s.short;
+    counts[3] = s.contained;
+    volume[0] = s.volume;
+    0
 }

@@ -198,6 +198,15 @@ fn any_box(random: &mut Random) -> Cell {
         true => random.between(1, 4) as f64,
         false => 0.1 + random.unit(),
     });
+    box_of([x, y, z])
+}
+
+/// The cube from 0 to 1.
+pub fn unit_cube() -> Cell {
+    box_of([1.0; 3])
+}
+
+fn box_of([x, y, z]: [f64; 3]) -> Cell {
     let low = [[0.0, 0.0], [x, 0.0], [x, y], [0.0, y]];
     let mut cell = prism_between(&low, 0.0, z);
     cell.set_faces(&[
@@ -275,7 +284,7 @@ fn bipyramid(random: &mut Random) -> Cell {
 }
 
 /// A sphere cut into bands from pole to pole, each of as many faces as there are sectors.
-fn sphere(bands: u32, sectors: u32) -> Cell {
+pub fn sphere(bands: u32, sectors: u32) -> Cell {
     let south = [0.0, 0.0, -1.0];
     let mut points = vec![south];
     for ring in 1..bands {

@@ -1,4 +1,4 @@
-//! `compare cells`: checks the random cells and the damaged copies against what they were made for.
+//! `compare check-cells`: checks the random cells and the damaged copies against what they were made for.
 //!
 //! Nothing of the port runs here. Later comparisons lean on these cells, so the cells themselves
 //! are tested: a sound cell passes, a damaged one fails the check it was damaged for, the Rust

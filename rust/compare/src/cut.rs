@@ -12,26 +12,37 @@ const UNTOUCHED: [u32; 3] = [0xDEAD_0001, 0xDEAD_0002, 0xDEAD_0003];
 /// Places after the lent ones, which the cut never sees.
 const BEYOND: usize = 4;
 
-/// A way to cut a face: coordinates, corners, places for triangles; the answer is their count.
-type Cutter = fn(&[f64], &[u32], &mut [[u32; 3]]) -> usize;
+/// A way to cut a face: coordinates, corners, places for triangles; the answer is their count, or
+/// a refusal.
+type Cutter = fn(&[f64], &[u32], &mut [[u32; 3]]) -> Result<usize, u8>;
 
 pub fn run(words: &[String]) -> Result<Outcome, String> {
     let count = number_or(words, 0, 100_000)?;
     let seed = number_or(words, 1, 1)?;
-    let most_vertices = (number_or(words, 2, MOST_VERTICES as u64)? as usize).min(MOST_VERTICES);
-    if most_vertices == 0 {
-        return Err("a face needs a vertex".to_string());
+    let most_vertices = number_or(words, 2, MOST_VERTICES as u64)? as usize;
+    if most_vertices == 0 || most_vertices > MOST_VERTICES {
+        return Err(format!("a face has 1 to {MOST_VERTICES} vertices"));
     }
     let mut random = Random::new(seed);
     let mut summary = Summary::new();
     for _ in 0..count {
-        let made = faces::any(&mut random, most_vertices);
+        let made = any_with_a_vertex(&mut random, most_vertices);
         let spare = random.below(6);
         summary.add(made, spare);
     }
     println!("cut {count} faces, seed {seed}, at most {most_vertices} vertices");
     summary.print();
     Ok(summary.outcome())
+}
+
+/// A cell of no vertex is refused, so a face without one is drawn again.
+fn any_with_a_vertex(random: &mut Random, most_vertices: usize) -> faces::Made {
+    loop {
+        let made = faces::any(random, most_vertices);
+        if !made.face.coords.is_empty() {
+            return made;
+        }
+    }
 }
 
 /// What came out of the faces so far.
@@ -139,7 +150,10 @@ fn by_the_rust(face: &Face) -> Vec<[u32; 3]> {
 fn difference(face: &Face, spare: usize, expected: &[[u32; 3]], cut: Cutter) -> Option<String> {
     let lent = wanted(face) + spare;
     let mut places = vec![UNTOUCHED; lent + BEYOND];
-    let count = cut(&face.coords, &face.corners, &mut places[..lent]);
+    let count = match cut(&face.coords, &face.corners, &mut places[..lent]) {
+        Ok(count) => count,
+        Err(refusal) => return Some(format!("refused {refusal}")),
+    };
     if count != expected.len() {
         return Some(format!("count: ours {count}, Rust {}", expected.len()));
     }
@@ -198,21 +212,25 @@ mod tests {
     use super::*;
 
     /// The slip 'emitting a fan', as a cutter that the comparison must catch.
-    fn fan(_: &[f64], face: &[u32], out: &mut [[u32; 3]]) -> usize {
+    fn fan(_: &[f64], face: &[u32], out: &mut [[u32; 3]]) -> Result<usize, u8> {
         let count = face.len().saturating_sub(2);
         for place in 0..count {
             out[place] = [face[0], face[place + 1], face[place + 2]];
         }
-        count
+        Ok(count)
     }
 
     /// A cut that is right but leaves a mark after its last triangle.
-    fn marks_the_next_place(coords: &[f64], face: &[u32], out: &mut [[u32; 3]]) -> usize {
-        let count = ours::cut_face(coords, face, out);
+    fn marks_the_next_place(
+        coords: &[f64],
+        face: &[u32],
+        out: &mut [[u32; 3]],
+    ) -> Result<usize, u8> {
+        let count = ours::cut_face(coords, face, out)?;
         if let Some(next) = out.get_mut(count) {
             *next = [0; 3];
         }
-        count
+        Ok(count)
     }
 
     fn square() -> Face {

@@ -1,5 +1,6 @@
 //! Runs the port and the Rust on the same inputs.
 
+mod bench;
 mod bench_cells;
 mod bench_cut;
 mod cells;
@@ -7,6 +8,7 @@ mod check_cells;
 mod compare_cells;
 mod cut;
 mod faces;
+mod floats;
 mod limits;
 mod ours;
 mod random;
@@ -26,31 +28,36 @@ pub enum Outcome {
 /// A command takes the words after its name, and says why when it cannot run.
 type Command = fn(&[String]) -> Result<Outcome, String>;
 
-const COMMANDS: [(&str, Command, &str); 5] = [
+const COMMANDS: [(&str, Command, &str); 6] = [
+    (
+        "floats",
+        floats::run,
+        "                      the f64 leaves against the machine",
+    ),
     (
         "cut",
         cut::run,
-        "[N] [SEED] [VERTICES]  cut N random faces, over at most VERTICES vertices",
-    ),
-    (
-        "bench-cut",
-        bench_cut::run,
-        "                 time the cut of faces of different sizes",
+        "[N] [SEED] [VERTICES]    N random faces, each over at most VERTICES vertices",
     ),
     (
         "cells",
         compare_cells::run,
-        "[N] [SEED]           every entry on N random cells and on damaged copies",
-    ),
-    (
-        "bench-cells",
-        bench_cells::run,
-        "               time volume and containment of a cube and of a cell of 60 faces",
+        "[N] [SEED]             N random cells, and damaged copies of them",
     ),
     (
         "check-cells",
         check_cells::run,
-        "[N] [SEED]     check the random cells and the damaged copies themselves",
+        "[N] [SEED]       the random cells and the damaged copies themselves",
+    ),
+    (
+        "bench-cut",
+        bench_cut::run,
+        "                   times of the cut of faces of different sizes",
+    ),
+    (
+        "bench-cells",
+        bench_cells::run,
+        "                 times of the entries on a cell",
     ),
 ];
 

@@ -1,0 +1,12 @@
+use borrow.Author.Needs.{needs}
+use Rattle.abi.proofs.cells.wegrusamt_geometric_centroid.Statement.{statement}
+use Rattle.abi.proofs.cells.wegrusamt_geometric_centroid.Tie as tie
+
+pub wegrusamt-geometric-centroid-spec : {M : Type 1} → statement M
+wegrusamt-geometric-centroid-spec =
+    tie.close
+    (tie.spec
+    (λ c κs. search needs)
+    (λ c κs. search needs)
+    (λ c. search needs)
+    (λ c. (cc, cc)))

@@ -1,0 +1,12 @@
+use borrow.Author.Needs.{needs}
+use Rattle.abi.proofs.cells.wegrusamt_point_in_phed.Statement.{statement}
+use Rattle.abi.proofs.cells.wegrusamt_point_in_phed.Tie as tie
+
+pub wegrusamt-point-in-phed-spec : {M : Type 1} → statement M
+wegrusamt-point-in-phed-spec =
+    tie.close
+    (tie.spec
+    (λ c κs. search needs)
+    (λ c κs. search needs)
+    (λ c. search needs)
+    (λ c. (cc, cc)))

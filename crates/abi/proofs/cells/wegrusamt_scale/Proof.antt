@@ -1,0 +1,12 @@
+use borrow.Author.Needs.{needs}
+use Rattle.abi.proofs.cells.wegrusamt_scale.Statement.{statement}
+use Rattle.abi.proofs.cells.wegrusamt_scale.Tie as tie
+
+pub wegrusamt-scale-spec : {M : Type 1} → statement M
+wegrusamt-scale-spec =
+    tie.close
+    (tie.spec
+    (λ c κs. search needs)
+    (λ c κs. search needs)
+    (λ c. search needs)
+    (λ c. (cc, cc)))

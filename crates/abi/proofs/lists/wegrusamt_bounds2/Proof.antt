@@ -1,0 +1,12 @@
+use borrow.Author.Needs.{needs}
+use Rattle.abi.proofs.lists.wegrusamt_bounds2.Statement.{statement}
+use Rattle.abi.proofs.lists.wegrusamt_bounds2.Tie as tie
+
+pub wegrusamt-bounds2-spec : {M : Type 1} → statement M
+wegrusamt-bounds2-spec =
+    tie.close
+    (tie.spec
+    (λ c κs. search needs)
+    (λ c κs. search needs)
+    (λ c. search needs)
+    (λ c. (cc, cc)))

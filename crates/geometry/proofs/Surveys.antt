@@ -18,7 +18,8 @@ use Rattle.cell.specs.Faces.{facesFrom, facesOf, rises}
 use Rattle.cell.specs.Refusals.{Sound}
 use Rattle.cell.proofs.Faces.{rises-le, length-faces}
 use Rattle.volume.specs.Triangles.{trianglesOf, isShort, shortOf}
-use Rattle.geometry.specs.Survey.{holds, surveyOf, surveyRefusal, surveyAnswer}
+use Rattle.inside.specs.Inside.{holds}
+use Rattle.geometry.specs.Survey.{surveyOf, surveyRefusal, surveyAnswer}
 use Rattle.geometry.specs.declared.Survey.{Survey}
 use Rattle.geometry.specs.declared.Surveyed.{Surveyed}
 use Rattle.geometry.proofs.Refusals.{survey-sound, few-query-points}

@@ -12,13 +12,9 @@ use Rattle.cell.specs.Faces.{facesOf}
 use Rattle.cell.specs.Refusals.{refusalOf}
 use Rattle.volume.specs.Triangles.{trianglesOf, shortOf}
 use Rattle.volume.specs.Volume.{volumeOf}
-use Rattle.inside.specs.Inside.{containsOf}
+use Rattle.inside.specs.Inside.{holds}
 use Rattle.geometry.specs.declared.Survey.{Survey}
 use Rattle.geometry.specs.declared.Surveyed.{Surveyed}
-
--- a point is contained in the cell
-abbrev pub holds : List Point → List (List ℕ) → Point → Bool
-holds vs fs p = containsOf vs p fs
 
 -- triangles, whether it is closed, faces cut short, the volume, and how many query points it contains
 unfoldable pub surveyOf : List Point → List (List ℕ) → List Point → Survey

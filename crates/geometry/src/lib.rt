@@ -6,20 +6,20 @@ pub mod space;
 
 ghost use mathlib.Core.Path.{_≡_};
 ghost use mathlib.Core.List.{[]};
-ghost use Prim.Native.Nat.{_-_, _≤_};
+ghost use Prim.Native.Nat.{_-_};
 ghost use lib.ListN.{length};
 ghost use lib.Dec.{ltb};
-ghost use Rattle.places.specs.Loops.{pick, anyOf, countOf};
+ghost use Rattle.places.specs.Loops.{anyOf};
 ghost use Rattle.flat.specs.Points.{verticesOf, centroidOf, boundsOf, scaleOf};
 ghost use Rattle.exact.specs.Sides.{closedOf};
 ghost use Rattle.cell.specs.Faces.{facesOf};
-ghost use Rattle.cell.specs.Refusals.{Sound, refusalOf};
+ghost use Rattle.cell.specs.Refusals.{refusalOf};
 ghost use Rattle.cell.specs.Description.{cellOf};
 ghost use Rattle.volume.specs.Volume.{volumeOf, geometricCentroidOf};
 ghost use Rattle.inside.specs.Inside.{containsOf, phedContainsOf};
 ghost use Rattle.geometry.specs.Answers.{named3, numberOr, truthOr, countOr, placeOr, extentOr, frontOr, describedOr};
 ghost use Rattle.geometry.specs.Refusals.{cellRefusal, faceTriangles, trianglesRefusal, strays, phedRefusal};
-ghost use Rattle.geometry.specs.Survey.{holds, queriesRefused, surveyRefusal, surveyAnswer};
+ghost use Rattle.geometry.specs.Survey.{queriesRefused, surveyRefusal, surveyAnswer};
 
 // An answer that is a number, a yes or no, a count; or the number of the refusal.
 pub enum Number {
@@ -338,30 +338,6 @@ fn survey_refusal(coords: &[f64], corners: &[u32], ends: &[u32], queries: &[f64]
     cell::refusal(coords, corners, ends, queries, &corners[..0])
 }
 
-// 1 for yes, 0 for no.
-fn one_if(b: bool) -> usize
-    ensures { λ r. ⌜ (r ≡ pick b 1 0) × (r ≤ 1) ⌝ }
-{
-    if b { 1 } else { 0 }
-}
-
-// How many of the query points the cell contains.
-fn count_contained(coords: &[f64], corners: &[u32], ends: &[u32], queries: &[f64]) -> usize
-    requires { ⌜ Sound (now coords) (now corners) (now ends) ⌝ }
-    requires { ⌜ length (now queries) ≤ 770 ⌝ }
-    ensures { λ r. ⌜ r ≡ countOf (holds (verticesOf (now (coords .entry))) (facesOf (now (corners .entry)) (now (ends .entry)))) (verticesOf (now (queries .entry))) ⌝ }
-{
-    let n = queries.len() / 3;
-    let mut found = 0;
-    let mut i = 0;
-    while i < n {
-        let p = flat::space::vertex(queries, i);
-        found += one_if(inside::contains(coords, corners, ends, p));
-        i += 1;
-    }
-    found
-}
-
 // All that the cell report says of a cell, with its query points: the cell is checked once, and its faces are cut once.
 // Ruled out: a volume of one cell beside the count of another; short faces counted among those under 3 corners.
 pub fn survey_cell(coords: &[f64], corners: &[u32], ends: &[u32], queries: &[f64]) -> Surveyed
@@ -377,6 +353,6 @@ pub fn survey_cell(coords: &[f64], corners: &[u32], ends: &[u32], queries: &[f64
         closed: skin::closed(corners, ends, coords.len() / 3),
         short: m.short,
         volume: floats::magnitude(m.v6) / 6.0,
-        contained: count_contained(coords, corners, ends, queries),
+        contained: inside::count_contained(coords, corners, ends, queries),
     })
 }

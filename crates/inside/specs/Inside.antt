@@ -18,6 +18,10 @@ crossFace vs p face inside = pick (rayCrosses vs p face) (not inside) inside
 unfoldable pub containsOf : List Point → Point → List (List ℕ) → Bool
 containsOf vs p fs = foldList (crossFace vs p) fs false
 
+-- a point is contained in the cell
+abbrev pub holds : List Point → List (List ℕ) → Point → Bool
+holds vs fs p = containsOf vs p fs
+
 -- ---- point_in_phed
 -- the mark that ends a face
 abbrev pub faceEnd : ℕ

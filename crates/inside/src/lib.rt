@@ -7,7 +7,8 @@ ghost use Rattle.flat.specs.Flat.{pointsOf};
 ghost use Rattle.cell.specs.Faces.{facesOf};
 ghost use Rattle.cell.specs.Refusals.{Sound};
 ghost use Rattle.inside.specs.Ray.{meetsAt, passes, passSide, inOutline, alongOf, reachOf, rayCrosses};
-ghost use Rattle.inside.specs.Inside.{crossFace, crossMarked, containsOf, MarkedInside, beforeMark, phedContainsOf};
+ghost use Rattle.places.specs.Loops.{pick, countOf};
+ghost use Rattle.inside.specs.Inside.{crossFace, crossMarked, containsOf, holds, MarkedInside, beforeMark, phedContainsOf};
 
 // Where the side from a to b meets the height of p.
 pub fn meets_at(p: [f64; 2], a: [f64; 2], b: [f64; 2]) -> f64
@@ -170,4 +171,28 @@ pub fn point_in_phed(coords: &[f64], cs: &[u32], p: [f64; 3]) -> bool
         start = end + 1;
     }
     inside
+}
+
+// 1 for yes, 0 for no.
+fn one_if(b: bool) -> usize
+    ensures { λ r. ⌜ (r ≡ pick b 1 0) × (r ≤ 1) ⌝ }
+{
+    if b { 1 } else { 0 }
+}
+
+// How many of the query points the cell contains.
+pub fn count_contained(coords: &[f64], corners: &[u32], ends: &[u32], queries: &[f64]) -> usize
+    requires { ⌜ Sound (now coords) (now corners) (now ends) ⌝ }
+    requires { ⌜ length (now queries) ≤ 770 ⌝ }
+    ensures { λ r. ⌜ r ≡ countOf (holds (verticesOf (now (coords .entry))) (facesOf (now (corners .entry)) (now (ends .entry)))) (verticesOf (now (queries .entry))) ⌝ }
+{
+    let n = queries.len() / 3;
+    let mut found = 0;
+    let mut i = 0;
+    while i < n {
+        let p = flat::space::vertex(queries, i);
+        found += one_if(contains(coords, corners, ends, p));
+        i += 1;
+    }
+    found
 }

@@ -7,10 +7,10 @@ use Rattle.places.proofs.Loops.{Counting, count-start, count-turn, count-end}
 use Rattle.places.proofs.Stored.{length-threes}
 use Rattle.flat.specs.Points.{verticesOf}
 use Rattle.cell.specs.Faces.{facesOf}
-use Rattle.geometry.specs.Survey.{holds}
+use Rattle.inside.specs.Inside.{holds}
 use borrow.Author.Needs.{needs}
-use Rattle.geometry.proofs.count_contained.Statement.{statement}
-use Rattle.geometry.proofs.count_contained.Tie as tie
+use Rattle.inside.proofs.count_contained.Statement.{statement}
+use Rattle.inside.proofs.count_contained.Tie as tie
 
 pub count-contained-spec : {M : Type 1} → statement M
 count-contained-spec =

@@ -103,13 +103,17 @@ cut-threes vs face = cut-all vs face (λ r c. Each [] Three (c .triangles)) (rec
   clip = λ k r c h l q. each-cons refl q;
 })
 
-pub cut-inside : (vs : List Point) (face : List ℕ) → Inside vs face → Each [] (Inside vs) (cutOf vs face .triangles)
-cut-inside vs face = cut-all vs face (λ r c. Inside vs r → Each [] (Inside vs) (c .triangles)) (record {
+-- every number written is one of the face's: whatever holds of all corners of the face holds of those of its triangles
+pub cut-each : {P : ℕ → Type 0} (vs : List Point) (face : List ℕ) → Each 0 P face → Each [] (Each 0 P) (cutOf vs face .triangles)
+cut-each {P} vs face = cut-all vs face (λ r c. Each 0 P r → Each [] (Each 0 P) (c .triangles)) (record {
   small = λ r h i. each-nil;
   three = λ r h i. each-cons i each-nil;
   stop = λ r h e i. each-nil;
   clip = λ k r c h l q i. each-cons (each-ear k r l i) (q (each-without k r i));
 })
+
+pub cut-inside : (vs : List Point) (face : List ℕ) → Inside vs face → Each [] (Inside vs) (cutOf vs face .triangles)
+cut-inside vs face i = cut-each vs face i
 
 -- ---- the triangles and the ring that is left have together the sides of the face, a side and its back taken off
 undo : (x : ℤ) → x +ℤ (negℤ x +ℤ pos 0) ≡ pos 0

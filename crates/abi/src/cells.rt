@@ -10,10 +10,10 @@ ghost use Rattle.cell.specs.Faces.{facesOf};
 ghost use Rattle.cell.specs.Refusals.{refusalOf};
 ghost use Rattle.volume.specs.Volume.{volumeOf, geometricCentroidOf};
 ghost use Rattle.inside.specs.Inside.{containsOf, phedContainsOf};
-ghost use Rattle.geometry.specs.Answers.{numberOr, truthOr, countOr, placeOr, extentOr, frontOr};
-ghost use Rattle.geometry.specs.Refusals.{cellRefusal, faceTriangles, trianglesRefusal, phedRefusal};
+ghost use Rattle.geometry.specs.Answers.{numberOr, truthOr, countOr, placeOr, extentOr, frontOr, faceTriangles};
+ghost use Rattle.refusals.specs.Refusals.{cellRefusal, trianglesRefusal, phedRefusal};
 ghost use Rattle.geometry.specs.Survey.{surveyAnswer};
-ghost use Rattle.abi.specs.Answers.{numberCode, numberInto, truthCode, truthInto, countCode, countInto, placeCode, placeInto, extentCode, extentInto, surveyedCode, surveyedCounts, surveyedVolume, roomBeside};
+ghost use Rattle.values.specs.Answers.{numberCode, numberInto, truthCode, truthInto, countCode, countInto, placeCode, placeInto, extentCode, extentInto, surveyedCode, surveyedCounts, surveyedVolume, roomBeside};
 
 #[no_mangle]
 pub extern "C" fn wegrusamt_volume(
@@ -25,7 +25,7 @@ pub extern "C" fn wegrusamt_volume(
     ensures code { λ r. ⌜ r ≡ numberCode (numberOr (cellRefusal (now (coords .entry)) (now (corners .entry)) (now (ends .entry))) (volumeOf (verticesOf (now (coords .entry))) (facesOf (now (corners .entry)) (now (ends .entry))))) (length (now (out .entry))) ⌝ }
     ensures written { λ _. ⌜ now (out .exit) ≡ numberInto (numberOr (cellRefusal (now (coords .entry)) (now (corners .entry)) (now (ends .entry))) (volumeOf (verticesOf (now (coords .entry))) (facesOf (now (corners .entry)) (now (ends .entry))))) (now (out .entry)) ⌝ }
 {
-    crate::put_number(geometry::volume(coords, corners, ends), out)
+    values::put_number(geometry::volume(coords, corners, ends), out)
 }
 
 #[no_mangle]
@@ -38,7 +38,7 @@ pub extern "C" fn wegrusamt_centroid(
     ensures code { λ r. ⌜ r ≡ placeCode (placeOr (cellRefusal (now (coords .entry)) (now (corners .entry)) (now (ends .entry))) (centroidOf 3 (verticesOf (now (coords .entry))))) (length (now (out .entry))) ⌝ }
     ensures written { λ _. ⌜ now (out .exit) ≡ placeInto (placeOr (cellRefusal (now (coords .entry)) (now (corners .entry)) (now (ends .entry))) (centroidOf 3 (verticesOf (now (coords .entry))))) (now (out .entry)) ⌝ }
 {
-    crate::put_place(geometry::centroid(coords, corners, ends), out)
+    values::put_place(geometry::centroid(coords, corners, ends), out)
 }
 
 #[no_mangle]
@@ -51,7 +51,7 @@ pub extern "C" fn wegrusamt_geometric_centroid(
     ensures code { λ r. ⌜ r ≡ placeCode (placeOr (cellRefusal (now (coords .entry)) (now (corners .entry)) (now (ends .entry))) (geometricCentroidOf (verticesOf (now (coords .entry))) (facesOf (now (corners .entry)) (now (ends .entry))))) (length (now (out .entry))) ⌝ }
     ensures written { λ _. ⌜ now (out .exit) ≡ placeInto (placeOr (cellRefusal (now (coords .entry)) (now (corners .entry)) (now (ends .entry))) (geometricCentroidOf (verticesOf (now (coords .entry))) (facesOf (now (corners .entry)) (now (ends .entry))))) (now (out .entry)) ⌝ }
 {
-    crate::put_place(geometry::geometric_centroid(coords, corners, ends), out)
+    values::put_place(geometry::geometric_centroid(coords, corners, ends), out)
 }
 
 // Six numbers: the low corner, then the high one.
@@ -65,7 +65,7 @@ pub extern "C" fn wegrusamt_bounds(
     ensures code { λ r. ⌜ r ≡ extentCode (extentOr (cellRefusal (now (coords .entry)) (now (corners .entry)) (now (ends .entry))) (boundsOf 3 (verticesOf (now (coords .entry))))) (length (now (out .entry))) ⌝ }
     ensures written { λ _. ⌜ now (out .exit) ≡ extentInto (extentOr (cellRefusal (now (coords .entry)) (now (corners .entry)) (now (ends .entry))) (boundsOf 3 (verticesOf (now (coords .entry))))) (now (out .entry)) ⌝ }
 {
-    crate::put_extent(geometry::bounds(coords, corners, ends), out)
+    values::put_extent(geometry::bounds(coords, corners, ends), out)
 }
 
 #[no_mangle]
@@ -78,7 +78,7 @@ pub extern "C" fn wegrusamt_scale(
     ensures code { λ r. ⌜ r ≡ numberCode (numberOr (cellRefusal (now (coords .entry)) (now (corners .entry)) (now (ends .entry))) (scaleOf (boundsOf 3 (verticesOf (now (coords .entry)))))) (length (now (out .entry))) ⌝ }
     ensures written { λ _. ⌜ now (out .exit) ≡ numberInto (numberOr (cellRefusal (now (coords .entry)) (now (corners .entry)) (now (ends .entry))) (scaleOf (boundsOf 3 (verticesOf (now (coords .entry)))))) (now (out .entry)) ⌝ }
 {
-    crate::put_number(geometry::scale(coords, corners, ends), out)
+    values::put_number(geometry::scale(coords, corners, ends), out)
 }
 
 // 1 for yes and 0 for no, here and below.
@@ -92,7 +92,7 @@ pub extern "C" fn wegrusamt_closed(
     ensures code { λ r. ⌜ r ≡ truthCode (truthOr (cellRefusal (now (coords .entry)) (now (corners .entry)) (now (ends .entry))) (closedOf (facesOf (now (corners .entry)) (now (ends .entry))))) (length (now (out .entry))) ⌝ }
     ensures written { λ _. ⌜ now (out .exit) ≡ truthInto (truthOr (cellRefusal (now (coords .entry)) (now (corners .entry)) (now (ends .entry))) (closedOf (facesOf (now (corners .entry)) (now (ends .entry))))) (now (out .entry)) ⌝ }
 {
-    crate::put_truth(geometry::closed(coords, corners, ends), out)
+    values::put_truth(geometry::closed(coords, corners, ends), out)
 }
 
 #[no_mangle]
@@ -108,7 +108,7 @@ pub extern "C" fn wegrusamt_contains(
     ensures code { λ r. ⌜ r ≡ truthCode (truthOr (refusalOf (now (coords .entry)) (now (corners .entry)) (now (ends .entry)) (x ∷ y ∷ z ∷ []) []) (containsOf (verticesOf (now (coords .entry))) (x ∷ y ∷ z ∷ []) (facesOf (now (corners .entry)) (now (ends .entry))))) (length (now (out .entry))) ⌝ }
     ensures written { λ _. ⌜ now (out .exit) ≡ truthInto (truthOr (refusalOf (now (coords .entry)) (now (corners .entry)) (now (ends .entry)) (x ∷ y ∷ z ∷ []) []) (containsOf (verticesOf (now (coords .entry))) (x ∷ y ∷ z ∷ []) (facesOf (now (corners .entry)) (now (ends .entry))))) (now (out .entry)) ⌝ }
 {
-    crate::put_truth(geometry::contains(coords, corners, ends, [x, y, z]), out)
+    values::put_truth(geometry::contains(coords, corners, ends, [x, y, z]), out)
 }
 
 #[no_mangle]
@@ -123,7 +123,7 @@ pub extern "C" fn wegrusamt_point_in_phed(
     ensures code { λ r. ⌜ r ≡ truthCode (truthOr (phedRefusal (now (coords .entry)) (now (cs .entry)) (x ∷ y ∷ z ∷ [])) (phedContainsOf (verticesOf (now (coords .entry))) (x ∷ y ∷ z ∷ []) (now (cs .entry)))) (length (now (out .entry))) ⌝ }
     ensures written { λ _. ⌜ now (out .exit) ≡ truthInto (truthOr (phedRefusal (now (coords .entry)) (now (cs .entry)) (x ∷ y ∷ z ∷ [])) (phedContainsOf (verticesOf (now (coords .entry))) (x ∷ y ∷ z ∷ []) (now (cs .entry)))) (now (out .entry)) ⌝ }
 {
-    crate::put_truth(geometry::point_in_phed(coords, cs, [x, y, z]), out)
+    values::put_truth(geometry::point_in_phed(coords, cs, [x, y, z]), out)
 }
 
 // What the triangles of a face answer where their count has no place.
@@ -154,7 +154,7 @@ pub extern "C" fn wegrusamt_triangles(
     if count.len() < 1 {
         return uncounted(coords, corners, ends, face);
     }
-    crate::put_count(geometry::triangles(coords, corners, ends, face, out), count)
+    values::put_count(geometry::triangles(coords, corners, ends, face, out), count)
 }
 
 // Four counts (triangles, closed, short, contained) in one list, the volume in another.
@@ -171,7 +171,7 @@ pub extern "C" fn wegrusamt_survey(
     ensures counted { λ _. ⌜ now (counts .exit) ≡ surveyedCounts (surveyAnswer (now (coords .entry)) (now (corners .entry)) (now (ends .entry)) (now (queries .entry))) (length (now (volume .entry))) (now (counts .entry)) ⌝ }
     ensures measured { λ _. ⌜ now (volume .exit) ≡ surveyedVolume (surveyAnswer (now (coords .entry)) (now (corners .entry)) (now (ends .entry)) (now (queries .entry))) (length (now (counts .entry))) (now (volume .entry)) ⌝ }
 {
-    crate::put_surveyed(
+    values::put_surveyed(
         geometry::survey_cell(coords, corners, ends, queries),
         counts,
         volume,

@@ -102,19 +102,25 @@ pub fn size_refused(coords: &[f64], corners: &[u32], ends: &[u32]) -> bool
     corners.len() > 2048
 }
 
-// Refusal 2.
+// Whether one of the two holds.
+fn either(a: bool, b: bool) -> bool
+    ensures { λ r. ⌜ r ≡ (a || b) ⌝ }
+{
+    if a { true } else { b }
+}
+
+// Refusal 2. Every number is looked at, without an exit, which is quicker where none is refused.
 pub fn number_refused(xs: &[f64]) -> bool
     ensures { λ r. ⌜ r ≡ numberRefused (now (xs .entry)) ⌝ }
 {
     let n = xs.len();
+    let mut refused = false;
     let mut i = 0;
     while i < n {
-        if is_wild(places::num(xs, i)) {
-            return true;
-        }
+        refused = either(refused, is_wild(places::num(xs, i)));
         i += 1;
     }
-    false
+    refused
 }
 
 // Refusal 3: the ends fall, or the last is not the corner count.
@@ -140,14 +146,13 @@ pub fn index_refused(n: usize, cs: &[u32]) -> bool
     ensures { λ r. ⌜ r ≡ indexRefused n (now (cs .entry)) ⌝ }
 {
     let m = cs.len();
+    let mut refused = false;
     let mut i = 0;
     while i < m {
-        if places::corner(cs, i) >= n {
-            return true;
-        }
+        refused = either(refused, places::corner(cs, i) >= n);
         i += 1;
     }
-    false
+    refused
 }
 
 // Refusal 5: any face of 0 corners, in a cell whose ends are in order.

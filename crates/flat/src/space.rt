@@ -40,23 +40,27 @@ pub fn point_at(coords: &[f64], ring: &[u32], axis: usize, i: usize) -> [f64; 2]
     crate::project2(vertex_at(coords, ring, i), axis)
 }
 
-// The Newell sums of a face.
+// The Newell sums of a face. A side's end is the next one's start, so each corner is read once.
 pub fn face_normal(coords: &[f64], face: &[u32]) -> [f64; 3]
     requires { ⌜ Inside (verticesOf (now coords)) (now face) ⌝ }
     ensures { λ r. ⌜ r ≡ newellOf (cornersOf (verticesOf (now (coords .entry))) (now (face .entry))) ⌝ }
 {
-    let mut s = [0.0, 0.0, 0.0];
     let n = face.len();
-    let mut i = 0;
+    if n == 0 {
+        return [0.0, 0.0, 0.0];
+    }
+    let first = vertex_at(coords, face, 0);
+    let mut s = [0.0, 0.0, 0.0];
+    let mut a = first;
+    let mut i = 1;
     while i < n {
-        let a = vertex_at(coords, face, i);
-        let j = places::next(i, n);
-        let b = vertex_at(coords, face, j);
+        let b = vertex_at(coords, face, i);
         let t = crate::newell_side(a, b, s);
         s = t;
+        a = b;
         i += 1;
     }
-    s
+    crate::newell_side(a, first, s)
 }
 
 // The Newell sums of a list of points.

@@ -11,4 +11,5 @@ pub mod Steps
 pub mod Special
 pub mod Grid
 pub mod Nearest
+pub mod Monotone
 pub mod Worked

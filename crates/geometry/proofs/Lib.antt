@@ -1,3 +1,3 @@
 pub mod Answers
-pub mod Refusals
 pub mod Surveys
+pub mod WorkLists

@@ -19,10 +19,11 @@ use Rattle.cell.specs.Refusals.{Sound}
 use Rattle.cell.proofs.Faces.{rises-le, length-faces}
 use Rattle.volume.specs.Triangles.{trianglesOf, isShort, shortOf}
 use Rattle.inside.specs.Inside.{holds}
-use Rattle.geometry.specs.Survey.{surveyOf, surveyRefusal, surveyAnswer}
+use Rattle.refusals.specs.Refusals.{surveyRefusal}
+use Rattle.geometry.specs.Survey.{surveyOf, surveyAnswer}
 use Rattle.geometry.specs.declared.Survey.{Survey}
 use Rattle.geometry.specs.declared.Surveyed.{Surveyed}
-use Rattle.geometry.proofs.Refusals.{survey-sound, few-query-points}
+use Rattle.refusals.proofs.Refusals.{survey-sound, few-query-points}
 
 -- a count is at most the length
 count-few : {A : Type 0} (test : A → Bool) (l : List A) → countOf test l ≤ length l

@@ -1,13 +1,17 @@
 -- What the public entries answer: where a call is refused the paper's number and no value, else the value.
 use Prim.Native.Nat.{ℕ}
 use mathlib.Core.Bool.{Bool}
-use mathlib.Core.List.{List, [], _++_}
+use mathlib.Core.List.{List, [], _∷_, _++_}
 use lib.Dec.{eqb}
 use lib.ListN.{length, getD, drop}
 use lib.Ieee.{Float}
 use Rattle.places.specs.Loops.{pick}
-use Rattle.flat.specs.Points.{Point, Box, at}
+use Rattle.floats.specs.F64.{zero64}
+use Rattle.flat.specs.Points.{Point, Box, at, verticesOf}
+use Rattle.cell.specs.Faces.{facesOf}
+use Rattle.cut.specs.Cut.{cutOf}
 use Rattle.cell.specs.declared.Cell.{Cell}
+use Rattle.planes.specs.declared.Plane.{Plane}
 use Rattle.geometry.specs.declared.Described.{Described}
 use Rattle.geometry.specs.declared.Number.{Number}
 use Rattle.geometry.specs.declared.Truth.{Truth}
@@ -17,6 +21,8 @@ use Rattle.geometry.specs.declared.Extent.{Extent}
 use Rattle.geometry.specs.declared.PlanePlace.{PlanePlace}
 use Rattle.geometry.specs.declared.PlaneExtent.{PlaneExtent}
 use Rattle.geometry.specs.declared.Done.{Done}
+use Rattle.geometry.specs.declared.PlaneAnswer.{PlaneAnswer}
+use Rattle.geometry.specs.declared.FacePlane.{FacePlane}
 use Rattle.geometry.specs.declared.Point3.{Point3}
 use Rattle.geometry.specs.declared.Point2.{Point2}
 use Rattle.geometry.specs.declared.Bounds3.{Bounds3}
@@ -63,6 +69,10 @@ doneOr refusal = pick (eqb refusal 0) Done.Is (Done.Refused refusal)
 unfoldable pub frontOr : {A : Type 0} → ℕ → List A → List A → List A
 frontOr refusal ts out = pick (eqb refusal 0) (ts ++ drop (length ts) out) out
 
+-- the triangles of the face k of a cell
+unfoldable pub faceTriangles : List Float → List ℕ → List ℕ → ℕ → List (List ℕ)
+faceTriangles coords corners ends k = cutOf (verticesOf coords) (getD (facesOf corners ends) k []) .triangles
+
 -- a list put in place of another, or, where the call is refused, the list as it was
 unfoldable pub listOr : {A : Type 0} → ℕ → List A → List A → List A
 listOr refusal new old = pick (eqb refusal 0) new old
@@ -70,3 +80,11 @@ listOr refusal new old = pick (eqb refusal 0) new old
 -- a cell's description: how many vertices, corners and faces its lists hold, and what is known of its shape; or the refusal
 unfoldable pub describedOr : ℕ → Cell → Described
 describedOr refusal c = pick (eqb refusal 0) (Described.Is c) (Described.Refused refusal)
+
+-- a refusal with +0 four times in place of a plane
+abbrev pub planeRefused : ℕ → FacePlane
+planeRefused refusal = record { answer = PlaneAnswer.Refused refusal; plane = record { n = zero64 ∷ zero64 ∷ zero64 ∷ []; d = zero64 } }
+
+-- a plane, or the refusal
+unfoldable pub facePlaneOr : ℕ → Plane → FacePlane
+facePlaneOr refusal plane = pick (eqb refusal 0) (record { answer = PlaneAnswer.Is; plane = plane }) (planeRefused refusal)

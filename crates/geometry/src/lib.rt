@@ -1,25 +1,27 @@
 // The gatehouse: every public entry takes any input, refuses by document 01's numbers, in its order, and then calls one room.
-// The entries on a cell stand here; those on lists of points in `space` and `plane`, the leaves in `leaves`.
+// The entries on a cell stand here; those on lists of points in `space` and `plane`, clipping in `clipping`, the fixed shapes in `fixed`, the leaves in `leaves`.
+pub mod clipping;
+pub mod fixed;
 pub mod leaves;
 pub mod plane;
 pub mod space;
 
 ghost use mathlib.Core.Path.{_≡_};
-ghost use mathlib.Core.List.{[]};
-ghost use Prim.Native.Nat.{_-_};
-ghost use lib.ListN.{length};
-ghost use lib.Dec.{ltb};
-ghost use Rattle.places.specs.Loops.{anyOf};
-ghost use Rattle.flat.specs.Points.{verticesOf, centroidOf, boundsOf, scaleOf};
+ghost use mathlib.Core.List.{[], _∷_};
+ghost use lib.ListN.{length, getD};
+ghost use Rattle.flat.specs.Points.{verticesOf, cornersOf, centroidOf, boundsOf, scaleOf};
 ghost use Rattle.exact.specs.Sides.{closedOf};
 ghost use Rattle.cell.specs.Faces.{facesOf};
 ghost use Rattle.cell.specs.Refusals.{refusalOf};
 ghost use Rattle.cell.specs.Description.{cellOf};
 ghost use Rattle.volume.specs.Volume.{volumeOf, geometricCentroidOf};
 ghost use Rattle.inside.specs.Inside.{containsOf, phedContainsOf};
-ghost use Rattle.geometry.specs.Answers.{named3, numberOr, truthOr, countOr, placeOr, extentOr, frontOr, describedOr};
-ghost use Rattle.geometry.specs.Refusals.{cellRefusal, faceTriangles, trianglesRefusal, strays, phedRefusal};
-ghost use Rattle.geometry.specs.Survey.{queriesRefused, surveyRefusal, surveyAnswer};
+ghost use Rattle.planes.specs.Planes.{planeOf};
+ghost use Rattle.turning.specs.Convexity.{isConvexOf};
+ghost use Rattle.turning.specs.Turning.{turnedOf};
+ghost use Rattle.refusals.specs.Refusals.{cellRefusal, facesRefusal, trianglesRefusal, phedRefusal};
+ghost use Rattle.geometry.specs.Answers.{named3, numberOr, truthOr, countOr, placeOr, extentOr, frontOr, listOr, doneOr, describedOr, facePlaneOr, faceTriangles};
+ghost use Rattle.geometry.specs.Survey.{surveyAnswer};
 
 // An answer that is a number, a yes or no, a count; or the number of the refusal.
 pub enum Number {
@@ -91,6 +93,18 @@ pub enum Described {
     Refused(u8),
 }
 
+// A plane is there, or the refusal. An enum holds no array, so the plane stands beside this.
+pub enum PlaneAnswer {
+    Is,
+    Refused(u8),
+}
+
+// The plane of a face; where there is none it is +0 four times.
+pub struct FacePlane {
+    pub answer: PlaneAnswer,
+    pub plane: planes::Plane,
+}
+
 // All that the cell report says of a cell.
 pub struct Survey {
     pub triangles: usize,
@@ -116,19 +130,12 @@ fn named3(p: [f64; 3]) -> Point3
     }
 }
 
-// Why a cell of which nothing else is asked is refused.
-fn refusal(coords: &[f64], corners: &[u32], ends: &[u32]) -> u8
-    ensures { λ r. ⌜ r ≡ cellRefusal (now (coords .entry)) (now (corners .entry)) (now (ends .entry)) ⌝ }
-{
-    cell::refusal(coords, corners, ends, &coords[..0], &corners[..0])
-}
-
 // |v6| / 6, about the vertex centroid.
 // Ruled out: the sum about the origin; a cell of one face cut only.
 pub fn volume(coords: &[f64], corners: &[u32], ends: &[u32]) -> Number
     ensures { λ r. ⌜ r ≡ numberOr (cellRefusal (now (coords .entry)) (now (corners .entry)) (now (ends .entry))) (volumeOf (verticesOf (now (coords .entry))) (facesOf (now (corners .entry)) (now (ends .entry)))) ⌝ }
 {
-    let why = refusal(coords, corners, ends);
+    let why = refusals::cell_refusal(coords, corners, ends);
     if why != 0 {
         return Number::Refused(why);
     }
@@ -140,7 +147,7 @@ pub fn volume(coords: &[f64], corners: &[u32], ends: &[u32]) -> Number
 pub fn centroid(coords: &[f64], corners: &[u32], ends: &[u32]) -> Place
     ensures { λ r. ⌜ r ≡ placeOr (cellRefusal (now (coords .entry)) (now (corners .entry)) (now (ends .entry))) (centroidOf 3 (verticesOf (now (coords .entry)))) ⌝ }
 {
-    let why = refusal(coords, corners, ends);
+    let why = refusals::cell_refusal(coords, corners, ends);
     if why != 0 {
         return Place::Refused(why);
     }
@@ -152,7 +159,7 @@ pub fn centroid(coords: &[f64], corners: &[u32], ends: &[u32]) -> Place
 pub fn geometric_centroid(coords: &[f64], corners: &[u32], ends: &[u32]) -> Place
     ensures { λ r. ⌜ r ≡ placeOr (cellRefusal (now (coords .entry)) (now (corners .entry)) (now (ends .entry))) (geometricCentroidOf (verticesOf (now (coords .entry))) (facesOf (now (corners .entry)) (now (ends .entry)))) ⌝ }
 {
-    let why = refusal(coords, corners, ends);
+    let why = refusals::cell_refusal(coords, corners, ends);
     if why != 0 {
         return Place::Refused(why);
     }
@@ -164,7 +171,7 @@ pub fn geometric_centroid(coords: &[f64], corners: &[u32], ends: &[u32]) -> Plac
 pub fn bounds(coords: &[f64], corners: &[u32], ends: &[u32]) -> Extent
     ensures { λ r. ⌜ r ≡ extentOr (cellRefusal (now (coords .entry)) (now (corners .entry)) (now (ends .entry))) (boundsOf 3 (verticesOf (now (coords .entry)))) ⌝ }
 {
-    let why = refusal(coords, corners, ends);
+    let why = refusals::cell_refusal(coords, corners, ends);
     if why != 0 {
         return Extent::Refused(why);
     }
@@ -182,7 +189,7 @@ pub fn bounds(coords: &[f64], corners: &[u32], ends: &[u32]) -> Extent
 pub fn scale(coords: &[f64], corners: &[u32], ends: &[u32]) -> Number
     ensures { λ r. ⌜ r ≡ numberOr (cellRefusal (now (coords .entry)) (now (corners .entry)) (now (ends .entry))) (scaleOf (boundsOf 3 (verticesOf (now (coords .entry))))) ⌝ }
 {
-    let why = refusal(coords, corners, ends);
+    let why = refusals::cell_refusal(coords, corners, ends);
     if why != 0 {
         return Number::Refused(why);
     }
@@ -194,7 +201,7 @@ pub fn scale(coords: &[f64], corners: &[u32], ends: &[u32]) -> Number
 pub fn closed(coords: &[f64], corners: &[u32], ends: &[u32]) -> Truth
     ensures { λ r. ⌜ r ≡ truthOr (cellRefusal (now (coords .entry)) (now (corners .entry)) (now (ends .entry))) (closedOf (facesOf (now (corners .entry)) (now (ends .entry)))) ⌝ }
 {
-    let why = refusal(coords, corners, ends);
+    let why = refusals::cell_refusal(coords, corners, ends);
     if why != 0 {
         return Truth::Refused(why);
     }
@@ -223,18 +230,60 @@ pub fn describe(
 ) -> Described
     ensures { λ r. ⌜ r ≡ describedOr (cellRefusal (now (coords .entry)) (now (corners .entry)) (now (ends .entry))) (cellOf (now (coords .entry)) (now (corners .entry)) (now (ends .entry)) convexity) ⌝ }
 {
-    let why = refusal(coords, corners, ends);
+    let why = refusals::cell_refusal(coords, corners, ends);
     if why != 0 {
         return Described::Refused(why);
     }
     Described::Is(cell::describe(coords, corners, ends, convexity))
 }
 
-// Whether `room` places are too few for the triangles of a face of n corners.
-fn room_refused(n: usize, room: usize) -> bool
-    ensures { λ r. ⌜ r ≡ ltb room (n - 2) ⌝ }
+// Whether the cell is convex: what the caller knows, and where that is unknown, whether each face has all other vertices on one side.
+// Ruled out: an unknown shape taken for a convex one; a face's own corners held against it.
+pub fn is_convex(coords: &[f64], corners: &[u32], ends: &[u32], convexity: cell::Convexity) -> Truth
+    ensures { λ r. ⌜ r ≡ truthOr (cellRefusal (now (coords .entry)) (now (corners .entry)) (now (ends .entry))) (isConvexOf convexity (verticesOf (now (coords .entry))) (facesOf (now (corners .entry)) (now (ends .entry)))) ⌝ }
 {
-    if n < 2 { false } else { room < n - 2 }
+    let why = refusals::cell_refusal(coords, corners, ends);
+    if why != 0 {
+        return Truth::Refused(why);
+    }
+    let c = cell::describe(coords, corners, ends, convexity);
+    Truth::Is(turning::is_convex(c, coords, corners, ends))
+}
+
+// The faces turned outward, each in its own stretch of the corner list.
+// Ruled out: faces turned inward; a refused list of which some faces are turned.
+pub fn into_ccw(coords: &[f64], corners: &mut [u32], ends: &[u32]) -> Done
+    ensures answer { λ r. ⌜ r ≡ doneOr (facesRefusal (now (coords .entry)) (now (corners .entry)) (now (ends .entry)) []) ⌝ }
+    ensures turned { λ _. ⌜ now (corners .exit) ≡ listOr (facesRefusal (now (coords .entry)) (now (corners .entry)) (now (ends .entry)) []) (turnedOf (verticesOf (now (coords .entry))) (facesOf (now (corners .entry)) (now (ends .entry)))) (now (corners .entry)) ⌝ }
+{
+    let why = refusals::faces_refusal(coords, corners, ends, &ends[..0]);
+    if why != 0 {
+        return Done::Refused(why);
+    }
+    turning::into_ccw(coords, corners, ends);
+    Done::Is
+}
+
+// The plane of the face with a number: a unit normal and an offset. Where the norm is 0 the plane has parts that are NaN or infinite.
+// Ruled out: the plane of the face before it; a plane beside a refusal that is not +0.
+pub fn plane_of_face(coords: &[f64], corners: &[u32], ends: &[u32], face: u32) -> FacePlane
+    ensures { λ r. ⌜ r ≡ facePlaneOr (facesRefusal (now (coords .entry)) (now (corners .entry)) (now (ends .entry)) (face ∷ [])) (planeOf (cornersOf (verticesOf (now (coords .entry))) (getD (facesOf (now (corners .entry)) (now (ends .entry))) face []))) ⌝ }
+{
+    let asked = [face];
+    let why = refusals::faces_refusal(coords, corners, ends, &asked);
+    if why != 0 {
+        let n = [0.0, 0.0, 0.0];
+        let plane = planes::Plane { n, d: 0.0 };
+        return FacePlane {
+            answer: PlaneAnswer::Refused(why),
+            plane,
+        };
+    }
+    let part = cell::face_by_number(corners, ends, face as usize);
+    FacePlane {
+        answer: PlaneAnswer::Is,
+        plane: planes::plane_of_face(coords, part),
+    }
 }
 
 // The triangles of the face with a number, at the front of out; room is asked for before the cut, even if it stops short.
@@ -255,54 +304,11 @@ pub fn triangles(
         return Count::Refused(why);
     }
     let part = cell::face_by_number(corners, ends, face as usize);
-    if room_refused(part.len(), out.len()) {
+    if refusals::room_refused(part.len(), out.len()) {
         return Count::Refused(6);
     }
     let c = cut::cut(coords, part, out);
     Count::Is(c.triangles)
-}
-
-// Whether an entry that is not the mark is not below n.
-fn strays_in(n: usize, cs: &[u32]) -> bool
-    ensures { λ r. ⌜ r ≡ anyOf (strays n) (now (cs .entry)) ⌝ }
-{
-    let m = cs.len();
-    let mut i = 0;
-    while i < m {
-        if strays(n, places::corner(cs, i)) {
-            return true;
-        }
-        i += 1;
-    }
-    false
-}
-
-fn strays(n: usize, c: usize) -> bool
-    ensures { λ r. ⌜ r ≡ strays n c ⌝ }
-{
-    if c == 4294967295 { false } else { n <= c }
-}
-
-// Why point_in_phed refuses.
-fn phed_refusal(coords: &[f64], cs: &[u32], p: [f64; 3]) -> u8
-    ensures { λ r. ⌜ r ≡ phedRefusal (now (coords .entry)) (now (cs .entry)) p ⌝ }
-{
-    if cell::points_refused(coords) {
-        return 1;
-    }
-    if cs.len() > 2304 {
-        return 1;
-    }
-    if cell::number_refused(coords) {
-        return 2;
-    }
-    if cell::number_refused(&p) {
-        return 2;
-    }
-    if strays_in(coords.len() / 3, cs) {
-        return 4;
-    }
-    0
 }
 
 // The same over one list, in which 4,294,967,295 ends a face; faces under 3 corners are skipped.
@@ -310,32 +316,11 @@ fn phed_refusal(coords: &[f64], cs: &[u32], p: [f64; 3]) -> u8
 pub fn point_in_phed(coords: &[f64], cs: &[u32], p: [f64; 3]) -> Truth
     ensures { λ r. ⌜ r ≡ truthOr (phedRefusal (now (coords .entry)) (now (cs .entry)) p) (phedContainsOf (verticesOf (now (coords .entry))) p (now (cs .entry))) ⌝ }
 {
-    let why = phed_refusal(coords, cs, p);
+    let why = refusals::phed_refusal(coords, cs, p);
     if why != 0 {
         return Truth::Refused(why);
     }
     Truth::Is(inside::point_in_phed(coords, cs, p))
-}
-
-// Query values not in threes, or over 256 query points.
-fn queries_refused(queries: &[f64]) -> bool
-    ensures { λ r. ⌜ r ≡ queriesRefused (now (queries .entry)) ⌝ }
-{
-    let n = queries.len();
-    if n % 3 != 0 {
-        return true;
-    }
-    n > 768
-}
-
-// Why a cell or its query points are refused.
-fn survey_refusal(coords: &[f64], corners: &[u32], ends: &[u32], queries: &[f64]) -> u8
-    ensures { λ r. ⌜ r ≡ surveyRefusal (now (coords .entry)) (now (corners .entry)) (now (ends .entry)) (now (queries .entry)) ⌝ }
-{
-    if queries_refused(queries) {
-        return 1;
-    }
-    cell::refusal(coords, corners, ends, queries, &corners[..0])
 }
 
 // All that the cell report says of a cell, with its query points: the cell is checked once, and its faces are cut once.
@@ -343,7 +328,7 @@ fn survey_refusal(coords: &[f64], corners: &[u32], ends: &[u32], queries: &[f64]
 pub fn survey_cell(coords: &[f64], corners: &[u32], ends: &[u32], queries: &[f64]) -> Surveyed
     ensures { λ r. ⌜ r ≡ surveyAnswer (now (coords .entry)) (now (corners .entry)) (now (ends .entry)) (now (queries .entry)) ⌝ }
 {
-    let why = survey_refusal(coords, corners, ends, queries);
+    let why = refusals::survey_refusal(coords, corners, ends, queries);
     if why != 0 {
         return Surveyed::Refused(why);
     }

@@ -4,7 +4,7 @@ ghost use Rattle.places.specs.Stored.{inPairs, joined};
 ghost use Rattle.flat.specs.Points.{centroidOf, boundsOf};
 ghost use Rattle.flat.specs.Flat.{signedAreaOf, ccwOf};
 ghost use Rattle.geometry.specs.Answers.{named2, numberOr, planePlaceOr, planeExtentOr, doneOr, listOr};
-ghost use Rattle.geometry.specs.Refusals.{pairsRefused, planeRefusal};
+ghost use Rattle.refusals.specs.Refusals.{planeRefusal};
 
 // The coordinates of a point under their names.
 fn named2(p: [f64; 2]) -> crate::Point2
@@ -13,36 +13,12 @@ fn named2(p: [f64; 2]) -> crate::Point2
     crate::Point2 { x: p[0], y: p[1] }
 }
 
-// Not in pairs, or over 512 points.
-fn pairs_refused(ps: &[f64]) -> bool
-    ensures { λ r. ⌜ r ≡ pairsRefused (now (ps .entry)) ⌝ }
-{
-    let n = ps.len();
-    if n % 2 != 0 {
-        return true;
-    }
-    n > 1024
-}
-
-// Why a list is refused.
-fn refusal(ps: &[f64]) -> u8
-    ensures { λ r. ⌜ r ≡ planeRefusal (now (ps .entry)) ⌝ }
-{
-    if pairs_refused(ps) {
-        return 1;
-    }
-    if cell::number_refused(ps) {
-        return 2;
-    }
-    0
-}
-
 // The signed area, above 0 where the outline runs counterclockwise.
 // Ruled out: the magnitude of the area; an outline that is not closed by its last side.
 pub fn signed_area2(ps: &[f64]) -> crate::Number
     ensures { λ r. ⌜ r ≡ numberOr (planeRefusal (now (ps .entry))) (signedAreaOf (inPairs (now (ps .entry)))) ⌝ }
 {
-    let why = refusal(ps);
+    let why = refusals::plane_refusal(ps);
     if why != 0 {
         return crate::Number::Refused(why);
     }
@@ -55,7 +31,7 @@ pub fn into_ccw2(ps: &mut [f64]) -> crate::Done
     ensures answer { λ r. ⌜ r ≡ doneOr (planeRefusal (now (ps .entry))) ⌝ }
     ensures turned { λ _. ⌜ now (ps .exit) ≡ listOr (planeRefusal (now (ps .entry))) (joined (ccwOf (inPairs (now (ps .entry))))) (now (ps .entry)) ⌝ }
 {
-    let why = refusal(ps);
+    let why = refusals::plane_refusal(ps);
     if why != 0 {
         return crate::Done::Refused(why);
     }
@@ -68,7 +44,7 @@ pub fn into_ccw2(ps: &mut [f64]) -> crate::Done
 pub fn vertex_centroid2(ps: &[f64]) -> crate::PlanePlace
     ensures { λ r. ⌜ r ≡ planePlaceOr (planeRefusal (now (ps .entry))) (centroidOf 2 (inPairs (now (ps .entry)))) ⌝ }
 {
-    let why = refusal(ps);
+    let why = refusals::plane_refusal(ps);
     if why != 0 {
         return crate::PlanePlace::Refused(why);
     }
@@ -80,7 +56,7 @@ pub fn vertex_centroid2(ps: &[f64]) -> crate::PlanePlace
 pub fn bounds2(ps: &[f64]) -> crate::PlaneExtent
     ensures { λ r. ⌜ r ≡ planeExtentOr (planeRefusal (now (ps .entry))) (boundsOf 2 (inPairs (now (ps .entry)))) ⌝ }
 {
-    let why = refusal(ps);
+    let why = refusals::plane_refusal(ps);
     if why != 0 {
         return crate::PlaneExtent::Refused(why);
     }

@@ -3,27 +3,14 @@ ghost use mathlib.Core.Path.{_≡_};
 ghost use Rattle.flat.specs.Points.{verticesOf, centroidOf, boundsOf};
 ghost use Rattle.flat.specs.Flat.{newellOf};
 ghost use Rattle.geometry.specs.Answers.{placeOr, extentOr};
-ghost use Rattle.geometry.specs.Refusals.{listRefusal};
-
-// Why a list is refused.
-fn refusal(coords: &[f64]) -> u8
-    ensures { λ r. ⌜ r ≡ listRefusal (now (coords .entry)) ⌝ }
-{
-    if cell::points_refused(coords) {
-        return 1;
-    }
-    if cell::number_refused(coords) {
-        return 2;
-    }
-    0
-}
+ghost use Rattle.refusals.specs.Refusals.{listRefusal};
 
 // The Newell sums.
 // Ruled out: leaving out the side from the last point to the first; a unit normal.
 pub fn newell_normal(coords: &[f64]) -> crate::Place
     ensures { λ r. ⌜ r ≡ placeOr (listRefusal (now (coords .entry))) (newellOf (verticesOf (now (coords .entry)))) ⌝ }
 {
-    let why = refusal(coords);
+    let why = refusals::list_refusal(coords);
     if why != 0 {
         return crate::Place::Refused(why);
     }
@@ -35,7 +22,7 @@ pub fn newell_normal(coords: &[f64]) -> crate::Place
 pub fn vertex_centroid(coords: &[f64]) -> crate::Place
     ensures { λ r. ⌜ r ≡ placeOr (listRefusal (now (coords .entry))) (centroidOf 3 (verticesOf (now (coords .entry)))) ⌝ }
 {
-    let why = refusal(coords);
+    let why = refusals::list_refusal(coords);
     if why != 0 {
         return crate::Place::Refused(why);
     }
@@ -47,7 +34,7 @@ pub fn vertex_centroid(coords: &[f64]) -> crate::Place
 pub fn bounds(coords: &[f64]) -> crate::Extent
     ensures { λ r. ⌜ r ≡ extentOr (listRefusal (now (coords .entry))) (boundsOf 3 (verticesOf (now (coords .entry)))) ⌝ }
 {
-    let why = refusal(coords);
+    let why = refusals::list_refusal(coords);
     if why != 0 {
         return crate::Extent::Refused(why);
     }

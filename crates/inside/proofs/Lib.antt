@@ -1,3 +1,4 @@
 pub mod Outlines
 pub mod Marks
 pub mod Computed
+pub mod Parallel

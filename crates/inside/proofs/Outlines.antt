@@ -1,4 +1,4 @@
--- The ray and a face: a loop once round a ring that keeps the corner it came from, a face's points in the plane, a stretch of corners, a face of no corners, and sides that pass.
+-- The ray and a face: a face's points in the plane, a stretch of corners, a face of no corners, and sides that pass.
 use mathlib.Core.Path.{_≡_, refl, sym, _∙_}
 use mathlib.Core.Bool.{Bool, true, false, not, _&&_, Bool·beq}
 use mathlib.Core.List.{List, [], _∷_}
@@ -13,27 +13,6 @@ use Rattle.floats.specs.Pick.{magnitudeOf, largestOf}
 use Rattle.flat.specs.Points.{Point, at, cornersOf}
 use Rattle.flat.specs.Flat.{newellOf, pointOf, pointsOf}
 use Rattle.inside.specs.Ray.{differ, meetsAt, passes, inOutline, alongOf, rayCrosses}
-
--- ---- from the corner a, with the corners from place i on to come and z at the end, the state s comes to `whole`
-pub record Walking {A S : Type 0} (f : A → A → S → S) (l : List A) (whole : S) (z : A) (i : ℕ) (a : A) (s : S) : Type 0 where
-  pub within : i ≤ length l
-  pub so : foldPairs f (walk a (drop i l) z) s ≡ whole
-
-module _ {A S : Type 0} {f : A → A → S → S} {l : List A} {whole : S} where
-  pub walk-start : {a : A} {s : S} (d : A) → 0 < length l → a ≡ getD l 0 d → foldPairs f (sides l) s ≡ whole → Walking f l whole a 1 a s
-  walk-start {a} {s} d h q e = record { within = h; so = rw q (go l h e) }
-    where
-      go : (l : List A) → 0 < length l → foldPairs f (sides l) s ≡ whole → foldPairs f (walk (getD l 0 d) (drop 1 l) (getD l 0 d)) s ≡ whole
-      go [] h e = absurd (omega arith)
-      go (x ∷ xs) h e = e
-
-  pub walk-turn : {z a b : A} {i : ℕ} {s s′ : S} (d : A) → Walking f l whole z i a s → i < length l → b ≡ getD l i d → s′ ≡ f a b s → Walking f l whole z (i + 1) b s′
-  unfolding foldPairs
-  walk-turn {z} {a} {b} {i} {s} {s′} d w h q e = record { within = omega arith; so = rw (e, q) (sym (rw (drop-more l i d h)) ∙ w .so) }
-
-  pub walk-end : {z a : A} {i : ℕ} {s s′ : S} → Walking f l whole z i a s → length l ≤ i → s′ ≡ f a z s → s′ ≡ whole
-  unfolding foldPairs
-  walk-end {z} {a} {i} {s} w h e = e ∙ sym (rw (drop-of-length-le l h)) ∙ w .so
 
 -- ---- a face's points in the plane, one for each of its corners
 module _ (vs : List Point) (axis : ℕ) (face : List ℕ) where

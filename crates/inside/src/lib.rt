@@ -58,11 +58,14 @@ pub fn in_outline(coords: &[f64], face: &[u32], axis: usize, p: [f64; 2]) -> boo
     pass_side(p, a, first, inside)
 }
 
-// Whether a normal is as good as at right angles to the ray. The constant is 2^-46, which is 64 times the distance from 1 to the next f64.
+// Whether a normal is as good as at right angles to the ray; that is settled at once where its first part is 0, as in a box. The constant is 2^-46, which is 64 times the distance from 1 to the next f64.
 pub fn along(n: [f64; 3]) -> bool
     ensures { λ r. ⌜ r ≡ alongOf n ⌝ }
 {
     let x = floats::magnitude(n[0]);
+    if x == 0.0 {
+        return true;
+    }
     let y = floats::magnitude(n[1]);
     let z = floats::magnitude(n[2]);
     x <= 1.4210854715202004e-14 * floats::largest(floats::largest(x, y), z)

@@ -1,4 +1,5 @@
 pub mod Loops
+pub mod Walks
 pub mod Turns
 pub mod Lists
 pub mod Rings

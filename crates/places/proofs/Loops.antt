@@ -2,7 +2,7 @@
 -- Each loop's proof is its start, its turn and its end.
 use mathlib.Core.Path.{_≡_, refl, sym, _∙_, ap}
 use mathlib.Core.Logic.{⊎-elim}
-use mathlib.Core.Bool.{Bool, true, false}
+use mathlib.Core.Bool.{Bool, true, false, _||_}
 use mathlib.Core.List.{List, [], _∷_, _++_}
 use Prim.Native.Nat.{ℕ, zero, suc, _+_, _-_, _<_, _≤_, zero-le}
 use native.Mathlib.Nat.{sub-zero, zero-add, add-zero, add-assoc, eq-or-lt-of-le}
@@ -42,6 +42,24 @@ pub fold-append : {A S : Type 0} (f : A → S → S) (xs ys : List A) (s : S) �
 unfolding foldList
 fold-append f [] ys s = refl
 fold-append f (x ∷ xs) ys s = fold-append f xs ys (f x s)
+
+-- a test of every element, each taken in: no exit, so that the loop can be done several elements at a time
+abbrev pub orTest : {A : Type 0} → (A → Bool) → A → Bool → Bool
+orTest test x so = so || test x
+
+pub any-taken : {A : Type 0} (test : A → Bool) (l : List A) → foldList (orTest test) l false ≡ anyOf test l
+unfolding foldList anyOf
+any-taken {A} test l = go l false
+  where
+    go : (l : List A) (b : Bool) → foldList (orTest test) l b ≡ (b || anyOf test l)
+    go [] true = refl
+    go [] false = refl
+    go (x ∷ xs) true = go xs true
+    go (x ∷ xs) false = go xs (test x) ∙ either (test x)
+      where
+        either : (b : Bool) → (b || anyOf test xs) ≡ pick b true (anyOf test xs)
+        either true = refl
+        either false = refl
 
 -- ---- a loop that goes once round a ring, from each corner to the next
 pub record Rounding {A S : Type 0} (f : A → A → S → S) (l : List A) (whole : S) (i : ℕ) (s : S) : Type 0 where

@@ -2,15 +2,25 @@
 use mathlib.Core.Path.{_≡_, refl}
 use Rattle.cut.proofs.Computed as Cut
 use Rattle.inside.proofs.Computed as Inside
+use Rattle.trim.proofs.Computed as Trim
+use Rattle.places.specs.Loops.{foldList, countOf}
+use Rattle.places.specs.Ring.{foldPairs}
+use Rattle.floats.specs.Pick.{magnitudeOf, largestOf}
+use Rattle.floats.specs.Root.{rootOf}
+use Rattle.flat.specs.Flat.{areaSide, summedAreaOf, signedAreaOf}
+use Rattle.work.specs.Work.{runOf, clippedOf}
+use Rattle.trim.specs.Doubled.{dist3Of, reachOf, toleranceOf, spacedFrom, spacedOf, openedOf, withoutDoubled}
+use Rattle.clip.specs.Clip.{cutChange, planeChange, clipFaceOf}
+use Rattle.planar.specs.Planar.{edgeChange, clipConvexOf, intersectionAreaOf}
 use mathlib.Core.List.{[], _∷_}
-use lib.Ieee.{binary64, ofBits}
+use lib.Ieee.{binary64, ofBits, lt}
 use Rattle.cell.specs.Refusals.{refusalOf, firstRow, sizeRefused, pointsRefused, numberRefused, wild, endsRefused, indexRefused}
 use Rattle.demand3.specs.Cube.{cube, hexCorners, hexEnds}
 use Rattle.worked.specs.Table.{given, stated, Claim, beside}
 
 -- every definition on the way to an answer: 'unfolding computed' opens them all
 unfoldable pub computed : Unit {0}
-unfolding Cut.computed Inside.computed
+unfolding Cut.computed Inside.computed Trim.computed lt foldPairs foldList countOf rootOf magnitudeOf largestOf areaSide summedAreaOf signedAreaOf runOf clippedOf dist3Of reachOf toleranceOf spacedFrom spacedOf openedOf withoutDoubled cutChange planeChange clipFaceOf edgeChange clipConvexOf intersectionAreaOf
 computed = tt
 
 pub worked : Claim

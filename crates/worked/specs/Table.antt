@@ -1,16 +1,21 @@
 -- Document 01's 'Worked by hand': the rows marked *, as one table and one claim about the definitions, which proofs/Table.antt proves by computing them.
--- Four marked rows come with clipping and planar overlap: the square by x ≤ 1, the crossing off its segment, and the overlap areas 1 and 4.
 use mathlib.Core.Path.{_≡_}
 use mathlib.Core.Bool.{Bool, true, false}
 use mathlib.Core.List.{List, [], _∷_}
 use Prim.Native.Nat.{ℕ}
 use lib.IntN.{pos, negsuc}
 use lib.Ieee.{Float, binary64, ofBits, ofInt}
-use Rattle.floats.specs.F64.{zero64, one64}
+use Rattle.floats.specs.F64.{_-f_, _/f_, zero64, one64, two64}
 use Rattle.flat.specs.Points.{Point, verticesOf}
 use Rattle.cut.specs.Cut.{cutOf}
 use Rattle.cell.specs.Faces.{facesOf}
 use Rattle.inside.specs.Inside.{faceEnd, containsOf, phedContainsOf}
+use Rattle.planes.specs.declared.Plane.{Plane}
+use Rattle.planes.specs.Planes.{distanceOf}
+use Rattle.work.specs.Work.{Outcome, outline}
+use Rattle.trim.specs.Trim.{within, crossPlane}
+use Rattle.clip.specs.Clip.{clipFaceOf}
+use Rattle.planar.specs.Planar.{clipConvexOf, intersectionAreaOf}
 use Rattle.demand3.specs.Cube.{cube, hexCorners, hexEnds}
 
 -- ---- a row: a question, and the answer that it states
@@ -20,11 +25,21 @@ pub data Question : Type 0 where
   -- whether the unit cube contains a point; and the same asked of `point_in_phed`
   containing : Point → Question
   containingMarked : Point → Question
+  -- what a plane leaves of an outline in space, and where a side crosses it, with an eps
+  clipping : Plane → Float → List Point → Question
+  crossing : Plane → Float → Point → Point → Question
+  -- the overlap area of a subject and a clip list
+  overlapping : List Point → List Point → Question
 
 pub data Answer : Type 0 where
   -- the triangles in order, and the ring that is left
   gives : List (List ℕ) → List ℕ → Answer
   contained : Bool → Answer
+  -- what is left, the first work list being false and the second true
+  leaves : Outcome → Answer
+  -- whether each end is inside, then t and the point
+  crosses : Bool → Bool → Float → Point → Answer
+  area : Float → Answer
 
 pub record Row : Type 0 where
   pub question : Question
@@ -41,6 +56,11 @@ abbrev pub answerOf : Question → Answer
 answerOf (cutting coords face) = gives (cutOf (verticesOf coords) face .triangles) (cutOf (verticesOf coords) face .left)
 answerOf (containing p) = contained (containsOf (verticesOf cube) p (facesOf hexCorners hexEnds))
 answerOf (containingMarked p) = contained (phedContainsOf (verticesOf cube) p hexMarked)
+
+answerOf (clipping plane eps ps) = leaves (clipFaceOf 8 eps (plane ∷ []) ps)
+answerOf (crossing plane eps a b) =
+    crosses (within plane eps a) (within plane eps b) (distanceOf plane a /f (distanceOf plane a -f distanceOf plane b)) (crossPlane plane a b)
+answerOf (overlapping subject clip) = area (intersectionAreaOf (clipConvexOf 8 subject clip))
 
 -- of every row, what the definitions give and what the row states
 abbrev pub given : List Row → List Answer
@@ -70,6 +90,36 @@ seven =
 abbrev tri : ℕ → ℕ → ℕ → List ℕ
 tri a b c = a ∷ b ∷ c ∷ []
 
+-- 0.75, 1.25, 3, 4, −1.5 and −6
+abbrev threeQuarters : Float
+threeQuarters = ofBits binary64 0x3fe8_0000_0000_0000
+
+abbrev fiveQuarters : Float
+fiveQuarters = ofBits binary64 0x3ff4_0000_0000_0000
+
+abbrev n3 : Float
+n3 = ofInt binary64 (pos 3)
+
+abbrev n4 : Float
+n4 = ofInt binary64 (pos 4)
+
+abbrev m1half : Float
+m1half = ofBits binary64 0xbff8_0000_0000_0000
+
+abbrev m6 : Float
+m6 = ofInt binary64 (negsuc 5)
+
+-- a point at z = 0, and the plane x = d, with x ≤ d inside
+abbrev level : Float → Float → Point
+level x y = x ∷ y ∷ zero64 ∷ []
+
+abbrev upTo : Float → Plane
+upTo d = record { n = one64 ∷ zero64 ∷ zero64 ∷ []; d = d }
+
+-- the square from (low, low) to (high, high) in the plane
+abbrev square : Float → Float → List Point
+square low high = (low ∷ low ∷ []) ∷ (high ∷ low ∷ []) ∷ (high ∷ high ∷ []) ∷ (low ∷ high ∷ []) ∷ []
+
 abbrev row : Question → Answer → Row
 row q a = record { question = q; answer = a }
 
@@ -86,6 +136,14 @@ table =
     ∷ row (containing (zero64 ∷ half ∷ half ∷ [])) (contained true)
     ∷ row (containing (one64 ∷ half ∷ half ∷ [])) (contained false)
     ∷ row (containing (half ∷ one64 ∷ half ∷ [])) (contained false)
+    -- the square (0,0), (2,0), (2,2), (0,2), z = 0, by x ≤ 1, eps 0: one cut, so it ends in the second list
+    ∷ row (clipping (upTo one64) zero64 (level zero64 zero64 ∷ level two64 zero64 ∷ level two64 two64 ∷ level zero64 two64 ∷ []))
+      (leaves (outline true (level zero64 zero64 ∷ level one64 zero64 ∷ level one64 two64 ∷ level zero64 two64 ∷ [])))
+    -- from (0.75,0,0) to (1.25,4,0), plane x = 0, eps 1: t = −1.5, point (0,−6,0)
+    ∷ row (crossing (upTo zero64) one64 (level threeQuarters zero64) (level fiveQuarters n4)) (crosses true false m1half (level zero64 m6))
+    -- the squares (0,0)–(2,2) and (1,1)–(3,3); the same subject and an empty clip list
+    ∷ row (overlapping (square zero64 two64) (square one64 n3)) (area one64)
+    ∷ row (overlapping (square zero64 two64) []) (area n4)
     ∷ []
 
 -- the claim

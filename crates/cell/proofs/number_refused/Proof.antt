@@ -2,7 +2,7 @@ use mathlib.Core.Path.{_≡_, refl}
 use Prim.Native.Nat.{_-_}
 use lib.ListN.{length}
 use lib.Ieee.{nan}
-use Rattle.places.proofs.Loops.{Asking, ask-start, ask-yes, ask-no, ask-end}
+use Rattle.places.proofs.Loops.{Taking, take-start, take-turn, take-end, orTest, any-taken}
 use Rattle.cell.specs.Refusals.{wild, numberRefused}
 use borrow.Author.Needs.{needs}
 use Rattle.cell.proofs.number_refused.Statement.{statement}
@@ -13,13 +13,13 @@ unfolding numberRefused
 number-refused-spec =
     tie.close
     (tie.spec
-    (λ xs n i₀ i. (n ≡ length xs) × Asking wild xs (numberRefused xs) i)
-    (λ xs n i₀ i. n - i)
-    (λ c. (refl, ask-start refl))
+    (λ xs n refused₀ i₀ refused i. (n ≡ length xs) × Taking (orTest wild) xs (numberRefused xs) i refused)
+    (λ xs n refused₀ i₀ refused i. n - i)
+    (λ c. (refl, take-start (any-taken wild _)))
     (λ c κs. search needs)
     (λ c κs. search needs)
-    (λ c. ask-yes nan (c .before .before .before .before .loop .inv .1) (search needs) (cc))
+    (λ c κs. search needs)
     (λ c. search needs)
     (λ c. search needs)
-    (λ c. (c .before .before .before .before .loop .inv .0, ask-no nan (c .before .before .before .before .loop .inv .1) (search needs) (cc)))
-    (λ c. ask-end (c .before .loop .inv .1) (search needs)))
+    (λ c. (c .before .before .before .before .loop .inv .0, take-turn nan (c .before .before .before .before .loop .inv .1) (search needs) (cc)))
+    (λ c. take-end (c .before .loop .inv .1) (search needs)))

@@ -15,7 +15,7 @@ closed-spec =
     tie.close
     (tie.spec
     (λ c κs. search needs)
-    (λ c. refused (c .before .refusal .ensures) Truth.Refused _ (c .if1 .taken))
-    (λ c κs. let s = sound (c .before .before .before .before .before .args .coords .now) (c .before .before .before .before .before .args .corners .now) (c .before .before .before .before .before .args .ends .now) [] [] (sym (c .before .refusal .ensures) ∙ c .if1 .left) in
+    (λ c. refused (c .before .cell-refusal .ensures) Truth.Refused _ (c .if1 .taken))
+    (λ c κs. let s = sound (c .before .before .before .before .before .args .coords .now) (c .before .before .before .before .before .args .corners .now) (c .before .before .before .before .before .args .ends .now) [] [] (sym (c .before .cell-refusal .ensures) ∙ c .if1 .left) in
     rw (← length-threes (c .before .before .before .before .before .args .coords .now)) ((s .inside, s .few), (s .few-corners, s .ordered)))
-    (λ c. passed (c .before .before .refusal .ensures) _ (c .before .if1 .left) (cc)))
+    (λ c. passed (c .before .before .cell-refusal .ensures) _ (c .before .if1 .left) (cc)))

@@ -11,6 +11,6 @@ describe-spec =
     tie.close
     (tie.spec
     (λ c κs. search needs)
-    (λ c. refused (c .before .refusal .ensures) Described.Refused _ (c .if1 .taken))
+    (λ c. refused (c .before .cell-refusal .ensures) Described.Refused _ (c .if1 .taken))
     (λ c κs. search needs)
-    (λ c. passed (c .before .before .refusal .ensures) _ (c .before .if1 .left) (cc)))
+    (λ c. passed (c .before .before .cell-refusal .ensures) _ (c .before .if1 .left) (cc)))

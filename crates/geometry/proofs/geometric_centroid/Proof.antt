@@ -14,7 +14,7 @@ geometric-centroid-spec =
     tie.close
     (tie.spec
     (λ c κs. search needs)
-    (λ c. refused (c .before .refusal .ensures) Place.Refused _ (c .if1 .taken))
-    (λ c κs. sound (c .before .before .before .before .before .args .coords .now) (c .before .before .before .before .before .args .corners .now) (c .before .before .before .before .before .args .ends .now) [] [] (sym (c .before .refusal .ensures) ∙ c .if1 .left))
+    (λ c. refused (c .before .cell-refusal .ensures) Place.Refused _ (c .if1 .taken))
+    (λ c κs. sound (c .before .before .before .before .before .args .coords .now) (c .before .before .before .before .before .args .corners .now) (c .before .before .before .before .before .args .ends .now) [] [] (sym (c .before .cell-refusal .ensures) ∙ c .if1 .left))
     (λ c κs. search needs)
-    (λ c. passed (c .before .before .before .refusal .ensures) _ (c .before .before .if1 .left) (cc)))
+    (λ c. passed (c .before .before .before .cell-refusal .ensures) _ (c .before .before .if1 .left) (cc)))

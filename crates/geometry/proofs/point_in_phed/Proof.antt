@@ -2,7 +2,7 @@ use mathlib.Core.Path.{sym, _∙_}
 use Rattle.geometry.specs.declared.Truth.{Truth}
 use Rattle.geometry.specs.Answers.{truthOr}
 use Rattle.geometry.proofs.Answers.{refused, passed}
-use Rattle.geometry.proofs.Refusals.{phed-known}
+use Rattle.refusals.proofs.Refusals.{phed-known}
 use borrow.Author.Needs.{needs}
 use Rattle.geometry.proofs.point_in_phed.Statement.{statement}
 use Rattle.geometry.proofs.point_in_phed.Tie as tie

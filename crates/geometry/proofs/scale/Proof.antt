@@ -11,7 +11,7 @@ scale-spec =
     tie.close
     (tie.spec
     (λ c κs. search needs)
-    (λ c. refused (c .before .refusal .ensures) Number.Refused _ (c .if1 .taken))
+    (λ c. refused (c .before .cell-refusal .ensures) Number.Refused _ (c .if1 .taken))
     (λ c κs. search needs)
     (λ c κs. search needs)
-    (λ c. passed (c .before .before .before .refusal .ensures) _ (c .before .before .if1 .left) (cc)))
+    (λ c. passed (c .before .before .before .cell-refusal .ensures) _ (c .before .before .if1 .left) (cc)))

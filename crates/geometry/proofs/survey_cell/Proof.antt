@@ -5,7 +5,7 @@ use Rattle.volume.specs.declared.Measured.{Measured}
 use Rattle.geometry.specs.declared.Surveyed.{Surveyed}
 use Rattle.geometry.specs.Survey.{surveyOf, surveyAnswer}
 use Rattle.geometry.proofs.Answers.{refused, passed}
-use Rattle.geometry.proofs.Refusals.{survey-sound, few-queries}
+use Rattle.refusals.proofs.Refusals.{survey-sound, few-queries}
 use borrow.Author.Needs.{needs}
 use Rattle.geometry.proofs.survey_cell.Statement.{statement}
 use Rattle.geometry.proofs.survey_cell.Tie as tie

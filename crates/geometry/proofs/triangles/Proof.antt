@@ -9,10 +9,10 @@ use borrow.Author.Tests.{ltb-false}
 use Rattle.cell.specs.Faces.{facesOf}
 use Rattle.cell.proofs.Refusals.{sound, asked-known}
 use Rattle.geometry.specs.declared.Count.{Count}
-use Rattle.geometry.specs.Answers.{countOr, frontOr}
-use Rattle.geometry.specs.Refusals.{roomRefused, faceTriangles}
+use Rattle.geometry.specs.Answers.{countOr, frontOr, faceTriangles}
+use Rattle.refusals.specs.Refusals.{roomRefused}
 use Rattle.geometry.proofs.Answers.{refused, passed, kept}
-use Rattle.geometry.proofs.Refusals.{first-decides, room-decides, face-sound}
+use Rattle.refusals.proofs.Refusals.{first-decides, room-decides, face-sound}
 use borrow.Author.Needs.{needs}
 use Rattle.geometry.proofs.triangles.Statement.{statement}
 use Rattle.geometry.proofs.triangles.Tie as tie

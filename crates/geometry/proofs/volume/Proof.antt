@@ -14,6 +14,6 @@ volume-spec =
     tie.close
     (tie.spec
     (λ c κs. search needs)
-    (λ c. refused (c .before .refusal .ensures) Number.Refused _ (c .if1 .taken))
-    (λ c κs. sound (c .before .before .before .before .before .args .coords .now) (c .before .before .before .before .before .args .corners .now) (c .before .before .before .before .before .args .ends .now) [] [] (sym (c .before .refusal .ensures) ∙ c .if1 .left))
-    (λ c. passed (c .before .before .refusal .ensures) _ (c .before .if1 .left) (cc)))
+    (λ c. refused (c .before .cell-refusal .ensures) Number.Refused _ (c .if1 .taken))
+    (λ c κs. sound (c .before .before .before .before .before .args .coords .now) (c .before .before .before .before .before .args .corners .now) (c .before .before .before .before .before .args .ends .now) [] [] (sym (c .before .cell-refusal .ensures) ∙ c .if1 .left))
+    (λ c. passed (c .before .before .cell-refusal .ensures) _ (c .before .if1 .left) (cc)))

@@ -6,7 +6,8 @@ use lib.ListN.{length}
 use Rattle.flat.specs.Points.{verticesOf}
 use Rattle.flat.specs.Flat.{pointsOf}
 use Rattle.inside.specs.Ray.{passSide, inOutline}
-use Rattle.inside.proofs.Outlines.{Walking, walk-start, walk-turn, walk-end, length-points, points-at, no-outline}
+use Rattle.places.proofs.Walks.{Walking, walk-start, walk-turn, walk-end}
+use Rattle.inside.proofs.Outlines.{length-points, points-at, no-outline}
 use borrow.Author.Needs.{needs}
 use Rattle.inside.proofs.in_outline.Statement.{statement}
 use Rattle.inside.proofs.in_outline.Tie as tie

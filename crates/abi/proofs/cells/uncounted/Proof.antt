@@ -1,6 +1,6 @@
 use mathlib.Core.Path.{ap, sym, _∙_}
 use Rattle.geometry.specs.declared.Count.{Count}
-use Rattle.abi.specs.Answers.{countCode}
+use Rattle.values.specs.Answers.{countCode}
 use borrow.Author.Needs.{needs}
 use Rattle.abi.proofs.cells.uncounted.Statement.{statement}
 use Rattle.abi.proofs.cells.uncounted.Tie as tie

@@ -1,11 +1,11 @@
-use Rattle.geometry.specs.Answers.{countOr}
-use Rattle.geometry.specs.Refusals.{trianglesRefusal, faceTriangles}
-use Rattle.abi.specs.Answers.{roomBeside}
+use Rattle.geometry.specs.Answers.{countOr, faceTriangles}
+use Rattle.refusals.specs.Refusals.{trianglesRefusal}
+use Rattle.values.specs.Answers.{roomBeside}
 use mathlib.Core.Path.{_≡_}
 use native.Mathlib.Omega.{arith}
 use lib.ListN.{length}
 use borrow.Author.Tests.{lt-ltb, le-ltb}
-use Rattle.abi.proofs.Answers.{count-kept}
+use Rattle.values.proofs.Answers.{count-kept}
 use borrow.Author.Needs.{needs}
 use Rattle.abi.proofs.cells.wegrusamt_triangles.Statement.{statement}
 use Rattle.abi.proofs.cells.wegrusamt_triangles.Tie as tie

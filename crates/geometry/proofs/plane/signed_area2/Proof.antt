@@ -11,6 +11,6 @@ signed-area2-spec =
     tie.close
     (tie.spec
     (λ c κs. search needs)
-    (λ c. refused (c .before .refusal .ensures) Number.Refused _ (c .if1 .taken))
+    (λ c. refused (c .before .plane-refusal .ensures) Number.Refused _ (c .if1 .taken))
     (λ c κs. search needs)
-    (λ c. passed (c .before .before .refusal .ensures) _ (c .before .if1 .left) (cc)))
+    (λ c. passed (c .before .before .plane-refusal .ensures) _ (c .before .if1 .left) (cc)))

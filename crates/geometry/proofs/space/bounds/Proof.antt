@@ -11,10 +11,10 @@ bounds-spec =
     tie.close
     (tie.spec
     (λ c κs. search needs)
-    (λ c. refused (c .before .refusal .ensures) Extent.Refused _ (c .if1 .taken))
+    (λ c. refused (c .before .list-refusal .ensures) Extent.Refused _ (c .if1 .taken))
     (λ c κs. search needs)
     (λ c. search needs)
     (λ c. search needs)
     (λ c κs. search needs)
     (λ c κs. search needs)
-    (λ c. passed (c .before .before .before .before .before .before .refusal .ensures) _ (c .before .before .before .before .before .if1 .left) (cc)))
+    (λ c. passed (c .before .before .before .before .before .before .list-refusal .ensures) _ (c .before .before .before .before .before .if1 .left) (cc)))

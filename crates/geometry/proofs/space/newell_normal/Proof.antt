@@ -11,7 +11,7 @@ newell-normal-spec =
     tie.close
     (tie.spec
     (λ c κs. search needs)
-    (λ c. refused (c .before .refusal .ensures) Place.Refused _ (c .if1 .taken))
+    (λ c. refused (c .before .list-refusal .ensures) Place.Refused _ (c .if1 .taken))
     (λ c κs. search needs)
     (λ c κs. search needs)
-    (λ c. passed (c .before .before .before .refusal .ensures) _ (c .before .before .if1 .left) (cc)))
+    (λ c. passed (c .before .before .before .list-refusal .ensures) _ (c .before .before .if1 .left) (cc)))

@@ -4,7 +4,7 @@ use Rattle.places.proofs.Stored.{length-threes}
 use Rattle.geometry.specs.declared.Place.{Place}
 use Rattle.geometry.specs.Answers.{placeOr}
 use Rattle.geometry.proofs.Answers.{refused, passed}
-use Rattle.geometry.proofs.Refusals.{list-counted}
+use Rattle.refusals.proofs.Refusals.{list-counted}
 use borrow.Author.Needs.{needs}
 use Rattle.geometry.proofs.space.vertex_centroid.Statement.{statement}
 use Rattle.geometry.proofs.space.vertex_centroid.Tie as tie
@@ -15,8 +15,8 @@ vertex-centroid-spec =
     tie.close
     (tie.spec
     (λ c κs. search needs)
-    (λ c. refused (c .before .refusal .ensures) Place.Refused _ (c .if1 .taken))
-    (λ c κs. let s = list-counted (c .before .before .before .args .coords .now) (sym (c .before .refusal .ensures) ∙ c .if1 .left) in
+    (λ c. refused (c .before .list-refusal .ensures) Place.Refused _ (c .if1 .taken))
+    (λ c κs. let s = list-counted (c .before .before .before .args .coords .now) (sym (c .before .list-refusal .ensures) ∙ c .if1 .left) in
     omega (arith, length-threes (c .before .before .before .args .coords .now), s .threes, s .few))
     (λ c κs. search needs)
-    (λ c. passed (c .before .before .before .refusal .ensures) _ (c .before .before .if1 .left) (cc)))
+    (λ c. passed (c .before .before .before .list-refusal .ensures) _ (c .before .before .if1 .left) (cc)))

@@ -1,0 +1,183 @@
+// A face clipped by planes, one after the other, from one work list into the other and back.
+use planes::Plane;
+use work::Clipped;
+use work::Step;
+ghost use mathlib.Core.Path.{_≡_};
+ghost use mathlib.Core.Bool.{Bool, true, false, not};
+ghost use Prim.Native.Nat.{_<_, _≤_};
+ghost use lib.ListN.{length, take};
+ghost use Rattle.places.specs.Loops.{pick, countOf};
+ghost use Rattle.flat.specs.Points.{verticesOf, Inside, cornersOf};
+ghost use Rattle.planes.specs.Planes.{inFours};
+ghost use Rattle.work.specs.Work.{runOf, shorterOf, Ended, Settled};
+ghost use Rattle.work.specs.Steps.{Shows, Moved};
+ghost use Rattle.trim.specs.Trim.{trimmedBy};
+ghost use Rattle.clip.specs.Clip.{beyond, cutChange, planeChange, clipFaceOf};
+
+// How many points of an outline are beyond a plane.
+fn count_out(src: &[f64], plane: Plane, eps: f64) -> usize
+    ensures { λ r. ⌜ r ≡ countOf (beyond plane eps) (verticesOf (now (src .entry))) ⌝ }
+{
+    let n = src.len() / 3;
+    let mut out = 0;
+    let mut i = 0;
+    while i < n {
+        if planes::distance(plane, flat::space::vertex(src, i)) > eps {
+            out += 1;
+        }
+        i += 1;
+    }
+    out
+}
+
+// An outline cut by a plane into another list, without doubled points.
+fn cut(src: &[f64], dst: &mut [f64], room: usize, plane: Plane, eps: f64) -> Step
+    requires { ⌜ 0 < length (verticesOf (now src)) ⌝ }
+    requires { ⌜ (length (now src) ≤ 3072) × (length (now dst) ≤ 3072) ⌝ }
+    requires { ⌜ room ≤ length (verticesOf (now dst)) ⌝ }
+    ensures { λ r. ⌜ Shows room (cutChange room (trimmedBy plane eps (verticesOf (now (src .entry))))) r (verticesOf (now (dst .exit))) ⌝ }
+{
+    let m = trim::trim_by_plane(src, dst, plane, eps);
+    if room < m {
+        return Step::Full;
+    }
+    let left = trim::doubled::remove_consecutive_duplicates(&mut dst[0..m * 3]);
+    if left < 3 {
+        return Step::Gone;
+    }
+    Step::Made(left)
+}
+
+// What a plane makes of an outline: it is tested whole first.
+fn advance(src: &[f64], dst: &mut [f64], room: usize, plane: Plane, eps: f64) -> Step
+    requires { ⌜ (length (now src) ≤ 3072) × (length (now dst) ≤ 3072) ⌝ }
+    requires { ⌜ room ≤ length (verticesOf (now dst)) ⌝ }
+    ensures { λ r. ⌜ Shows room (planeChange room eps plane (verticesOf (now (src .entry)))) r (verticesOf (now (dst .exit))) ⌝ }
+{
+    let n = src.len() / 3;
+    if n < 3 {
+        return Step::Gone;
+    }
+    let out = count_out(src, plane, eps);
+    if out == 0 {
+        return Step::Kept;
+    }
+    if out == n {
+        return Step::Gone;
+    }
+    cut(src, dst, room, plane, eps)
+}
+
+// The outline of n points stands in the first list, or in the second, and goes to the other.
+fn advance_from(
+    first: &mut [f64],
+    second: &mut [f64],
+    in_second: bool,
+    n: usize,
+    room: usize,
+    plane: Plane,
+    eps: f64,
+) -> Step
+    requires { ⌜ (length (now first) ≤ 3072) × (length (now second) ≤ 3072) ⌝ }
+    requires { ⌜ (n ≤ room) × (room ≤ length (verticesOf (now first))) × (room ≤ length (verticesOf (now second))) ⌝ }
+    ensures { λ r. ⌜ Moved room (planeChange room eps) plane n in_second (verticesOf (now (first .entry))) (verticesOf (now (second .entry))) r (verticesOf (now (first .exit))) (verticesOf (now (second .exit))) ⌝ }
+{
+    if in_second {
+        return advance(&second[0..n * 3], first, room, plane, eps);
+    }
+    advance(&first[0..n * 3], second, room, plane, eps)
+}
+
+// The planes one after the other, from the outline of n points in the first list on.
+fn run(
+    first: &mut [f64],
+    second: &mut [f64],
+    count: usize,
+    room: usize,
+    planes: &[f64],
+    eps: f64,
+) -> Clipped
+    requires { ⌜ (length (now first) ≤ 3072) × (length (now second) ≤ 3072) ⌝ }
+    requires { ⌜ (count ≤ room) × (room ≤ length (verticesOf (now first))) × (room ≤ length (verticesOf (now second))) ⌝ }
+    ensures { λ r. ⌜ Ended (runOf (planeChange room eps) (inFours (now (planes .entry))) false (take count (verticesOf (now (first .entry))))) r (verticesOf (now (first .exit))) (verticesOf (now (second .exit))) ⌝ }
+{
+    let many = planes.len() / 4;
+    let mut n = count;
+    let mut in_second = false;
+    let mut i = 0;
+    while i < many {
+        let plane = planes::plane_at(planes, i);
+        i += 1;
+        match advance_from(first, second, in_second, n, room, plane, eps) {
+            Step::Kept => {}
+            Step::Gone => return Clipped::Nothing,
+            Step::Full => return Clipped::Refused(6),
+            Step::Made(left) => {
+                n = left;
+                in_second = !in_second;
+            }
+        }
+    }
+    if n == 0 {
+        return Clipped::Nothing;
+    }
+    Clipped::Outline(n, in_second)
+}
+
+// The points of a face laid down at the front of a list.
+fn gather(coords: &[f64], face: &[u32], dst: &mut [f64])
+    requires { ⌜ Inside (verticesOf (now coords)) (now face) ⌝ }
+    requires { ⌜ length (now face) ≤ length (verticesOf (now dst)) ⌝ }
+    requires { ⌜ length (now face) ≤ 2048 ⌝ }
+    ensures { λ _. ⌜ take (length (now (face .entry))) (verticesOf (now (dst .exit))) ≡ cornersOf (verticesOf (now (coords .entry))) (now (face .entry)) ⌝ }
+{
+    let n = face.len();
+    let mut i = 0;
+    while i < n {
+        trim::put(dst, i, flat::space::vertex_at(coords, face, i));
+        i += 1;
+    }
+}
+
+// A face clipped by planes that are stored in fours: the answer, with the outline at the front of its list. Both lists keep what else was written.
+// Ruled out: a plane with a NaN part read as leaving all points outside; only the first plane applied.
+pub fn clip_face(
+    coords: &[f64],
+    face: &[u32],
+    planes: &[f64],
+    eps: f64,
+    first: &mut [f64],
+    second: &mut [f64],
+) -> Clipped
+    requires { ⌜ Inside (verticesOf (now coords)) (now face) ⌝ }
+    requires { ⌜ (length (now face) ≤ 2048) × (length (now planes) ≤ 1024) ⌝ }
+    requires { ⌜ (length (now first) ≤ 3072) × (length (now second) ≤ 3072) ⌝ }
+    ensures { λ r. ⌜ Ended (clipFaceOf (shorterOf (length (verticesOf (now (first .entry)))) (length (verticesOf (now (second .entry))))) eps (inFours (now (planes .entry))) (cornersOf (verticesOf (now (coords .entry))) (now (face .entry)))) r (verticesOf (now (first .exit))) (verticesOf (now (second .exit))) ⌝ }
+{
+    let room = work::shorter(first.len() / 3, second.len() / 3);
+    if room < face.len() {
+        return Clipped::Refused(6);
+    }
+    gather(coords, face, first);
+    run(first, second, face.len(), room, planes, eps)
+}
+
+// The same, and then +0 in every number of both lists save the outline.
+// Ruled out: numbers of an earlier outline left behind the shown one; lists left as they were where there is no room.
+pub fn clip_face_shown(
+    coords: &[f64],
+    face: &[u32],
+    planes: &[f64],
+    eps: f64,
+    first: &mut [f64],
+    second: &mut [f64],
+) -> Clipped
+    requires { ⌜ Inside (verticesOf (now coords)) (now face) ⌝ }
+    requires { ⌜ (length (now face) ≤ 2048) × (length (now planes) ≤ 1024) ⌝ }
+    requires { ⌜ (length (now first) ≤ 3072) × (length (now second) ≤ 3072) ⌝ }
+    ensures { λ r. ⌜ Settled (clipFaceOf (shorterOf (length (verticesOf (now (first .entry)))) (length (verticesOf (now (second .entry))))) eps (inFours (now (planes .entry))) (cornersOf (verticesOf (now (coords .entry))) (now (face .entry)))) r (now (first .entry)) (now (second .entry)) (now (first .exit)) (now (second .exit)) ⌝ }
+{
+    let r = clip_face(coords, face, planes, eps, first, second);
+    work::settle_answer(first, second, r, 3);
+    r
+}

@@ -1,0 +1,56 @@
+-- A face clipped or skipped: from what the code's parts say to what is left of it.
+use mathlib.Core.Path.{_≡_, refl}
+use mathlib.Core.Bool.{Bool, true, false}
+use mathlib.Core.List.{List}
+use Prim.Native.Nat.{ℕ, _*_, _-_}
+use native.Mathlib.Omega.{arith}
+use lib.ListN.{length, take}
+use lib.Ieee.{Float}
+use Rattle.places.specs.Loops.{pick, anyOf}
+use Rattle.places.proofs.Stored.{length-threes}
+use Rattle.flat.specs.Points.{Point, verticesOf, cornersOf}
+use Rattle.planes.specs.declared.Plane.{Plane}
+use Rattle.planes.specs.Planes.{inFours, planeOf}
+use Rattle.planes.proofs.Stored.{take-fours}
+use Rattle.work.specs.declared.Clipped.{Clipped}
+use Rattle.work.specs.declared.Clipped.the-variants.{Nothing}
+use Rattle.work.specs.Work.{nothing, shorterOf, Ended}
+use Rattle.clip.specs.Clip.{clipFaceOf}
+use Rattle.overlap.specs.declared.Measures.{Measures}
+use Rattle.overlap.specs.Overlap.{skips, othersOf, firstPatch, secondPatch, patchOf}
+use Rattle.overlap.specs.Ready.{Ready}
+
+-- how many points the shorter of two work lists holds: it goes by their lengths
+abbrev pub roomOf : List Float → List Float → ℕ
+roomOf first second = shorterOf (length (verticesOf first)) (length (verticesOf second))
+
+pub same-room : (a b a₀ b₀ : List Float) → length a ≡ length a₀ → length b ≡ length b₀ → roomOf a b ≡ roomOf a₀ b₀
+same-room a b a₀ b₀ e f = rw (length-threes a, length-threes b, length-threes a₀, length-threes b₀, e, f)
+
+-- the planes by which a face is clipped: of the second cell (true) by all of the first, of the first by the others
+abbrev pub clippers : Bool → Plane → Float → List Plane → List Plane
+clippers true plane tol planes = planes
+clippers false plane tol planes = othersOf plane tol planes
+
+-- what is left of a face: nothing where it is skipped
+patch-is : (second : Bool) (room : ℕ) (m : Measures) (planes : List Plane) (ps : List Point)
+    → patchOf second room m planes ps
+    ≡ pick (anyOf (skips second (planeOf ps) (m .coplanar)) planes) nothing (clipFaceOf room (m .eps) (clippers second (planeOf ps) (m .coplanar) planes) ps)
+unfolding firstPatch secondPatch
+patch-is true room m planes ps = refl
+patch-is false room m planes ps = refl
+
+module _ {vs : List Point} {face : List ℕ} {plane : Plane} {planes first second : List Float} {a b : List Point} {skipped : Bool} (other : Bool) (m : Measures)
+    (ready : Ready vs face plane planes first second) (asked : skipped ≡ anyOf (skips other plane (m .coplanar)) (inFours planes)) where
+  pub patch-skipped : skipped ≡ true → Ended (patchOf other (roomOf first second) m (inFours planes) (cornersOf vs face)) Nothing a b
+  patch-skipped e = rw (patch-is other (roomOf first second) m (inFours planes) (cornersOf vs face), ← (ready .own), ← asked, e) (record { answer = refl; stands = refl })
+
+  pub patch-clipped : {r : Clipped} → skipped ≡ false → Ended (clipFaceOf (roomOf first second) (m .eps) (clippers other plane (m .coplanar) (inFours planes)) (cornersOf vs face)) r a b
+      → Ended (patchOf other (roomOf first second) m (inFours planes) (cornersOf vs face)) r a b
+  patch-clipped e q = rw (patch-is other (roomOf first second) m (inFours planes) (cornersOf vs face), ← (ready .own), ← asked, e) q
+
+-- the planes that were laid down are those of the list's front
+pub front-planes : (n : ℕ) (l : List Float) → inFours (take (n * 4 - 0) l) ≡ take n (inFours l)
+front-planes n l =
+    let e : n * 4 - 0 ≡ 4 * n = omega arith in
+    rw e (take-fours n l)

@@ -1,0 +1,3 @@
+pub mod Tolerances
+pub mod Overlap
+pub mod Ready

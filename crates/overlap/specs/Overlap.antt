@@ -1,0 +1,96 @@
+-- convex_intersection_volume: each cell's faces clipped by the planes of the other, and the contributions of what is left.
+use Prim.Native.Nat.{ℕ}
+use mathlib.Core.Bool.{Bool, true, false, _||_}
+use mathlib.Core.List.{List, [], _∷_, _++_, map}
+use lib.Ieee.{Float}
+use Rattle.places.specs.Loops.{pick, anyOf}
+use Rattle.places.specs.Ring.{foldPairs}
+use Rattle.floats.specs.F64.{_+f_, _/f_, zero64, six64}
+use Rattle.floats.specs.Pick.{magnitudeOf}
+use Rattle.flat.specs.Points.{Point, minusOf, cornersOf, boundsOf}
+use Rattle.volume.specs.Volume.{tripleOf}
+use Rattle.planes.specs.declared.Plane.{Plane}
+use Rattle.planes.specs.Planes.{planeOf, planesOf, sameSide, coplanarOpposite}
+use Rattle.work.specs.Work.{Outcome, nothing, noRoom, outline}
+use Rattle.clip.specs.Clip.{clipFaceOf}
+use Rattle.overlap.specs.declared.Measures.{Measures}
+use Rattle.overlap.specs.declared.Sum.{Sum}
+use Rattle.overlap.specs.Tolerances.{boxesMiss, measuresOf}
+
+-- ---- polygon_volume_contribution
+-- from each point to the next
+abbrev pub steps : List Point → List (Point × Point)
+steps [] = []
+steps (a ∷ []) = []
+steps (a ∷ b ∷ ps) = (a, b) ∷ steps (b ∷ ps)
+
+-- the sum v with the triple product of the triangle (p, a, b) about the reference point added
+unfoldable pub addFan : Point → Point → Point → Point → Float → Float
+addFan ref p a b v = v +f tripleOf (minusOf 3 p ref) (minusOf 3 a ref) (minusOf 3 b ref)
+
+-- the triangles from the first point of an outline to each of its other sides, summed, over 6
+unfoldable pub contributionOf : Point → List Point → Float
+contributionOf ref [] = zero64 /f six64
+contributionOf ref (p ∷ ps) = foldPairs (addFan ref p) (steps ps) zero64 /f six64
+
+-- ---- the faces
+-- the plane p of the other cell keeps a face in this plane from being counted: a face of the second cell (true) where p is its plane, from either side,
+-- and one of the first (false) where p is its plane from the other side
+abbrev pub skips : Bool → Plane → Float → Plane → Bool
+skips true plane tol p = coplanarOpposite p plane tol || sameSide p plane tol
+skips false plane tol p = coplanarOpposite plane p tol
+
+-- the planes that are not the plane itself, with the inside on the same side
+unfoldable pub othersOf : Plane → Float → List Plane → List Plane
+othersOf plane tol [] = []
+othersOf plane tol (p ∷ ps) =
+    let rest = othersOf plane tol ps in
+    pick (sameSide plane p tol) rest (p ∷ rest)
+
+-- a face of the first cell: none of it counts where it lies in a plane of the second from the other side; else it is clipped by the planes of the second that are not its own
+unfoldable pub firstPatch : ℕ → Measures → List Plane → List Point → Outcome
+firstPatch room m planes ps =
+    let plane = planeOf ps in
+    let left = clipFaceOf room (m .eps) (othersOf plane (m .coplanar) planes) ps in
+    pick (anyOf (skips false plane (m .coplanar)) planes) nothing left
+
+-- a face of the second cell: none of it counts where it lies in a plane of the first, from either side; else it is clipped by all planes of the first
+unfoldable pub secondPatch : ℕ → Measures → List Plane → List Point → Outcome
+secondPatch room m planes ps =
+    let plane = planeOf ps in
+    let left = clipFaceOf room (m .eps) planes ps in
+    pick (anyOf (skips true plane (m .coplanar)) planes) nothing left
+
+-- a face of the second cell (true) or of the first (false), clipped by planes of the other
+abbrev pub patchOf : Bool → ℕ → Measures → List Plane → List Point → Outcome
+patchOf true room m planes ps = secondPatch room m planes ps
+patchOf false room m planes ps = firstPatch room m planes ps
+
+-- what is left of a cell's faces, clipped by planes of the other
+unfoldable pub patchesOf : Bool → ℕ → Measures → List Point → List (List ℕ) → List Plane → List Outcome
+patchesOf second room m vs faces planes = map (λ face. patchOf second room m planes (cornersOf vs face)) faces
+
+-- the contributions added in order to the sum v; an outline of 0 points reads as nothing left, and where a face had no room the sum is refused 6
+unfoldable pub addedTo : Point → Float → List Outcome → Sum
+addedTo ref v [] = Sum.Is v
+addedTo ref v (nothing ∷ os) = addedTo ref v os
+addedTo ref v (noRoom ∷ os) = Sum.Refused 6
+addedTo ref v (outline second [] ∷ os) = addedTo ref v os
+addedTo ref v (outline second (p ∷ ps) ∷ os) = addedTo ref (v +f contributionOf ref (p ∷ ps)) os
+
+-- the magnitude of a sum
+abbrev pub magnitudeOfSum : Sum → Sum
+magnitudeOfSum (Sum.Is v) = Sum.Is (magnitudeOf v)
+magnitudeOfSum (Sum.Refused k) = Sum.Refused k
+
+-- convex_intersection_volume_impl: the faces of the first cell before those of the second
+unfoldable pub overlapOf : ℕ → List Point → List (List ℕ) → List Point → List (List ℕ) → Sum
+overlapOf room vs faces ws others =
+    let m = measuresOf vs ws in
+    magnitudeOfSum (addedTo (m .reference) zero64 (patchesOf false room m vs faces (planesOf ws others) ++ patchesOf true room m ws others (planesOf vs faces)))
+
+-- convex_intersection_volume: 0 where the boxes miss each other
+unfoldable pub intersectionOf : ℕ → List Point → List (List ℕ) → List Point → List (List ℕ) → Sum
+intersectionOf room vs faces ws others =
+    let overlap = overlapOf room vs faces ws others in
+    pick (boxesMiss (boundsOf 3 vs) (boundsOf 3 ws)) (Sum.Is zero64) overlap

@@ -1,0 +1,2 @@
+pub mod Planar
+pub mod Rows

@@ -1,0 +1,64 @@
+-- Planes: the plane of a face, the distance of a point, when two planes are the same, and planes as they are stored.
+use Prim.Native.Nat.{ℕ}
+use mathlib.Core.Bool.{Bool, false}
+use mathlib.Core.List.{List, [], _∷_, map}
+use lib.ListN.{getD}
+use lib.Ieee.{Float, binary64, ofBits, neg, le}
+use Rattle.places.specs.Loops.{pick}
+use Rattle.floats.specs.F64.{_+f_, _-f_, _*f_, _/f_, one64}
+use Rattle.floats.specs.Pick.{magnitudeOf}
+use Rattle.floats.specs.Length.{lengthOf}
+use Rattle.flat.specs.Points.{Point, at, pointBy, cornersOf}
+use Rattle.flat.specs.Flat.{newellOf}
+use Rattle.planes.specs.declared.Plane.{Plane}
+
+-- n · p
+unfoldable pub dotOf : Point → Point → Float
+dotOf n p = at n 0 *f at p 0 +f at n 1 *f at p 1 +f at n 2 *f at p 2
+
+-- face_plane: the offset of the plane n · x + d = 0 through p
+unfoldable pub offsetOf : Point → Point → Float
+offsetOf n p = neg (dotOf n p)
+
+-- the plane n · x + d = 0 with its normal brought to length 1: each part times 1 / length, and the offset on the other side
+unfoldable pub unitPlane : Point → Float → Plane
+unitPlane n d =
+    let inv = one64 /f lengthOf (lengthOf (at n 0) (at n 1)) (at n 2) in
+    record { n = pointBy 3 (λ k. at n k *f inv); d = neg d *f inv }
+
+-- plane_of_face: the Newell sums of the face's points, and the offset of the first
+unfoldable pub planeOf : List Point → Plane
+planeOf ps = unitPlane (newellOf ps) (offsetOf (newellOf ps) (getD ps 0 []))
+
+-- the planes of faces, in order
+unfoldable pub planesOf : List Point → List (List ℕ) → List Plane
+planesOf vs faces = map (λ face. planeOf (cornersOf vs face)) faces
+
+-- how far p is beyond a plane: n · p − d
+unfoldable pub distanceOf : Plane → Point → Float
+distanceOf plane p = dotOf (plane .n) p -f plane .d
+
+-- 1e-10
+abbrev slant : Float
+slant = ofBits binary64 0x3ddb_7cdf_d9d7_bdbb
+
+-- plane_same_side: the normals point the same way and the offsets agree
+unfoldable pub sameSide : Plane → Plane → Float → Bool
+sameSide a b tol = pick (le (dotOf (a .n) (b .n)) (one64 -f slant)) false (le (magnitudeOf (a .d -f b .d)) tol)
+
+-- plane_coplanar_opposite: the normals point opposite ways and the offsets agree
+unfoldable pub coplanarOpposite : Plane → Plane → Float → Bool
+coplanarOpposite a b tol = pick (le (neg one64 +f slant) (dotOf (a .n) (b .n))) false (le (magnitudeOf (a .d +f b .d)) tol)
+
+-- ---- planes as they are stored
+-- the planes of a list that is stored in fours, normal first; one to three numbers over make no plane
+unfoldable pub inFours : List Float → List Plane
+inFours [] = []
+inFours (a ∷ []) = []
+inFours (a ∷ b ∷ []) = []
+inFours (a ∷ b ∷ c ∷ []) = []
+inFours (a ∷ b ∷ c ∷ d ∷ l) = record { n = a ∷ b ∷ c ∷ []; d = d } ∷ inFours l
+
+-- no plane stands there
+abbrev pub noPlane : Plane
+noPlane = record { n = []; d = one64 }

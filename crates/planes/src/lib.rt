@@ -1,0 +1,138 @@
+// Planes: a unit normal and an offset, the plane of a face, and planes in a list.
+ghost use mathlib.Core.Path.{_≡_};
+ghost use mathlib.Core.List.{[]};
+ghost use Prim.Native.Nat.{_+_, _*_, _<_, _≤_};
+ghost use lib.ListN.{length, getD, set};
+ghost use Rattle.flat.specs.Points.{verticesOf, Inside, cornersOf};
+ghost use Rattle.cell.specs.Faces.{facesOf};
+ghost use Rattle.cell.specs.Refusals.{Sound, emptyRefused};
+ghost use mathlib.Core.Bool.{false};
+ghost use Rattle.planes.specs.Planes.{dotOf, offsetOf, unitPlane, planeOf, planesOf, distanceOf, sameSide, coplanarOpposite, inFours, noPlane};
+
+// A unit normal and an offset; inside is n · x <= d.
+pub struct Plane {
+    pub n: [f64; 3],
+    pub d: f64,
+}
+
+pub fn dot(n: [f64; 3], p: [f64; 3]) -> f64
+    ensures { λ r. ⌜ r ≡ dotOf n p ⌝ }
+{
+    n[0] * p[0] + n[1] * p[1] + n[2] * p[2]
+}
+
+// The offset of the plane n · x + d = 0 through p.
+pub fn offset(n: [f64; 3], p: [f64; 3]) -> f64
+    ensures { λ r. ⌜ r ≡ offsetOf n p ⌝ }
+{
+    -dot(n, p)
+}
+
+// The plane n · x + d = 0 with its normal brought to length 1.
+// Ruled out: an offset left on its side, d for -d; a norm that is the root of the three squares' sum, which rounds otherwise.
+pub fn unit_plane(n: [f64; 3], d: f64) -> Plane
+    ensures { λ r. ⌜ r ≡ unitPlane n d ⌝ }
+{
+    let inv = 1.0 / floats::length(floats::length(n[0], n[1]), n[2]);
+    let unit = [n[0] * inv, n[1] * inv, n[2] * inv];
+    Plane {
+        n: unit,
+        d: -d * inv,
+    }
+}
+
+// The plane of a face. Where the norm is 0 a part of the normal is NaN or infinite, as document 01 says.
+// Ruled out: each part divided by the norm, which rounds once instead of twice; an offset taken at the last corner.
+pub fn plane_of_face(coords: &[f64], face: &[u32]) -> Plane
+    requires { ⌜ Inside (verticesOf (now coords)) (now face) ⌝ }
+    requires { ⌜ 0 < length (now face) ⌝ }
+    ensures { λ r. ⌜ r ≡ planeOf (cornersOf (verticesOf (now (coords .entry))) (now (face .entry))) ⌝ }
+{
+    let n = flat::space::face_normal(coords, face);
+    let p = flat::space::vertex_at(coords, face, 0);
+    unit_plane(n, offset(n, p))
+}
+
+// How far p is beyond a plane.
+// Ruled out: the offset added; the offset taken off before the products are added, which rounds otherwise.
+pub fn distance(plane: Plane, p: [f64; 3]) -> f64
+    ensures { λ r. ⌜ r ≡ distanceOf plane p ⌝ }
+{
+    plane.n[0] * p[0] + plane.n[1] * p[1] + plane.n[2] * p[2] - plane.d
+}
+
+// Whether two planes are the same with the inside on the same side.
+// Ruled out: `>=` for `>`, which lets a normal that is off by just 1e-10 pass; offsets compared with their signs.
+pub fn plane_same_side(a: Plane, b: Plane, tol: f64) -> bool
+    ensures { λ r. ⌜ r ≡ sameSide a b tol ⌝ }
+{
+    let m = a.n;
+    let n = b.n;
+    if dot(m, n) <= 1.0 - 1e-10 {
+        return false;
+    }
+    floats::magnitude(a.d - b.d) <= tol
+}
+
+// Whether two planes are the same with the inside on opposite sides.
+// Ruled out: the difference of the offsets for their sum; a NaN normal read as not opposite.
+pub fn plane_coplanar_opposite(a: Plane, b: Plane, tol: f64) -> bool
+    ensures { λ r. ⌜ r ≡ coplanarOpposite a b tol ⌝ }
+{
+    let m = a.n;
+    let n = b.n;
+    if dot(m, n) >= -1.0 + 1e-10 {
+        return false;
+    }
+    floats::magnitude(a.d + b.d) <= tol
+}
+
+// The plane at place k.
+// Ruled out: the offset read before the normal; the planes counted from the end.
+pub fn plane_at(planes: &[f64], k: usize) -> Plane
+    requires { ⌜ k < length (inFours (now planes)) ⌝ }
+    ensures { λ r. ⌜ r ≡ getD (inFours (now (planes .entry))) k noPlane ⌝ }
+{
+    let i = k * 4;
+    let n = [
+        places::num(planes, i),
+        places::num(planes, i + 1),
+        places::num(planes, i + 2),
+    ];
+    Plane {
+        n,
+        d: places::num(planes, i + 3),
+    }
+}
+
+// A plane laid down at place k.
+// Ruled out: the offset laid down before the normal; a store that reaches into the plane after it.
+pub fn put_plane(out: &mut [f64], k: usize, plane: Plane)
+    requires { ⌜ k < length (inFours (now out)) ⌝ }
+    ensures { λ _. ⌜ inFours (now (out .exit)) ≡ set (inFours (now (out .entry))) k plane ⌝ }
+{
+    let i = k * 4;
+    out[i] = plane.n[0];
+    out[i + 1] = plane.n[1];
+    out[i + 2] = plane.n[2];
+    out[i + 3] = plane.d;
+}
+
+// The planes of a cell's faces, one a place of a list that has just so many.
+// Ruled out: every face taken from the first corner on; the last place left as it was.
+pub fn planes(coords: &[f64], corners: &[u32], ends: &[u32], out: &mut [f64])
+    requires { ⌜ Sound (now coords) (now corners) (now ends) ⌝ }
+    requires { ⌜ emptyRefused (now corners) (now ends) ≡ false ⌝ }
+    requires { ⌜ length (now out) ≡ 4 * length (now ends) ⌝ }
+    ensures { λ _. ⌜ inFours (now (out .exit)) ≡ planesOf (verticesOf (now (coords .entry))) (facesOf (now (corners .entry)) (now (ends .entry))) ⌝ }
+{
+    let mut start = 0;
+    let mut k = 0;
+    while k < ends.len() {
+        let end = places::corner(ends, k);
+        let face = cell::face(corners, start, end);
+        put_plane(out, k, plane_of_face(coords, face));
+        start = end;
+        k += 1;
+    }
+}

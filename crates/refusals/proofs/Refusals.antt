@@ -1,0 +1,249 @@
+-- The first of two refusals; the size of a list, told by how many numbers it has; and what is known of lists that are not refused.
+use mathlib.Core.Path.{_≡_, refl, sym, _∙_}
+use mathlib.Core.Logic.{_≢_}
+use mathlib.Core.Bool.{Bool, true, false, not, _&&_, _||_}
+use mathlib.Core.List.{List, [], _∷_}
+use Prim.Native.Nat.{ℕ, _-_, _/_, _%_, _<_, _≤_}
+use native.Mathlib.Omega.{arith}
+use borrow.Author.Tests.{ltb-false, leb-false, eqb-true, eqb-false, not-false, eq-eqb, ne-eqb}
+use lib.Dec.{T, eqb, leb, ltb}
+use lib.ListN.{length, getD}
+use lib.Seq.{length-slice}
+use lib.Ieee.{Float}
+use Rattle.places.specs.Loops.{pick, anyOf}
+use Rattle.places.specs.Stored.{inPairs}
+use Rattle.places.proofs.Lists.{each-slice}
+use Rattle.places.proofs.Stored.{length-threes, length-pairs}
+use Rattle.flat.specs.Points.{verticesOf, Inside}
+use Rattle.cell.specs.Faces.{facesOf, rises}
+use Rattle.cell.specs.Refusals.{firstRow, pointsRefused, numberRefused, isEmpty, emptyRefused, refusalOf, Sound}
+use Rattle.cell.proofs.Faces.{face-at, rises-at, length-faces}
+use Rattle.cell.proofs.Refusals.{row-applies, row-passed, row-zero, no-row, or-none, any-none, Counted, counted, sound, asked-known}
+use Rattle.inside.specs.Inside.{faceEnd, MarkedInside}
+use Rattle.planes.specs.Planes.{inFours}
+use Rattle.planes.proofs.Faces.{has-corner}
+use Rattle.planes.proofs.Stored.{length-fours}
+use Rattle.refusals.specs.Refusals.{orElse, partsRefused, listRefusal, pairsRefused, planeRefusal, facesRefusal, roomRefused, trianglesRefusal, strays, phedRefusal, queriesRefused, surveyRefusal, planesRefused, workRefused, worksRefusal, clipRefusal, planarRefusal, overlapRefusal}
+
+-- ---- the first of two refusals
+module _ {why first : ℕ} (rest : ℕ) (found : why ≡ first) where
+  -- one that was found decides
+  pub or-found : why ≢ 0 → why ≡ orElse first rest
+  unfolding orElse
+  or-found n = rw (← found, ne-eqb why 0 n)
+
+  -- else the other does
+  pub or-other : {r : ℕ} → why ≡ 0 → r ≡ rest → r ≡ orElse first rest
+  unfolding orElse
+  or-other z e = rw (← found, eq-eqb why 0 z) e
+
+module _ (first rest : ℕ) where
+  -- where neither refuses
+  pub or-zero : orElse first rest ≡ 0 → (first ≡ 0) × (rest ≡ 0)
+  unfolding orElse
+  or-zero e = go (eqb first 0) refl e
+    where
+      go : (b : Bool) → eqb first 0 ≡ b → pick b rest first ≡ 0 → (first ≡ 0) × (rest ≡ 0)
+      go true t z = (eqb-true first 0 t, z)
+      go false t z = absurd (eqb-false first 0 t z)
+
+-- a row that stands alone
+pub one-row : (n : ℕ) (applies : Bool) → 1 ≤ n → firstRow ((n, applies) ∷ []) ≡ 0 → applies ≡ false
+one-row n applies h e = row-zero n [] applies h e .0
+
+-- ---- a list stored in parts
+module _ (n size most : ℕ) where
+  pub not-in-parts : (n % size ≡ 0 → ⊥) → true ≡ partsRefused n size most
+  unfolding partsRefused
+  not-in-parts h = rw (ne-eqb (n % size) 0 h)
+
+  pub parts-many : n % size ≡ 0 → ltb most (n / size) ≡ partsRefused n size most
+  unfolding partsRefused
+  parts-many e = rw e
+
+-- the sizes of points of the plane, of query values and of planes are of that kind
+pub pairs-are : (ps : List Float) → partsRefused (length ps) 2 512 ≡ pairsRefused ps
+unfolding partsRefused pairsRefused
+pairs-are ps = rw (length-pairs ps)
+
+pub queries-are : (queries : List Float) → partsRefused (length queries) 3 256 ≡ queriesRefused queries
+unfolding partsRefused queriesRefused
+queries-are queries = rw (length-threes queries)
+
+pub planes-are : (planes : List Float) → partsRefused (length planes) 4 256 ≡ planesRefused planes
+unfolding partsRefused planesRefused
+planes-are planes = rw (length-fours planes)
+
+parts-known : (n size most : ℕ) → partsRefused n size most ≡ false → (n % size ≡ 0) × (n / size ≤ most)
+unfolding partsRefused
+parts-known n size most e =
+    let size-known = or-none _ _ e in
+    (eqb-true _ _ (not-false _ (size-known .0)), ltb-false most _ (size-known .1))
+
+-- ---- lists of points
+pub list-counted : (coords : List Float) → listRefusal coords ≡ 0 → Counted coords
+unfolding listRefusal
+list-counted coords e = counted coords (row-zero 1 ((2, numberRefused coords) ∷ []) (pointsRefused coords) (omega arith) e .0)
+
+pub plane-counted : (ps : List Float) → planeRefusal ps ≡ 0 → (length ps % 2 ≡ 0) × (length ps ≤ 1024)
+unfolding planeRefusal
+plane-counted ps e =
+    let known = parts-known (length ps) 2 512 (pairs-are ps ∙ row-zero 1 ((2, numberRefused ps) ∷ []) (pairsRefused ps) (omega arith) e .0) in
+    (known .0, omega (arith, known .0, known .1))
+
+-- ---- a cell and its query points
+module _ (coords : List Float) (corners ends : List ℕ) (queries : List Float) (e : surveyRefusal coords corners ends queries ≡ 0) where
+  survey-zero : (firstRow ((1, queriesRefused queries) ∷ []) ≡ 0) × (refusalOf coords corners ends queries [] ≡ 0)
+  unfolding surveyRefusal
+  survey-zero = or-zero _ _ e
+
+  pub survey-sound : Sound coords corners ends
+  survey-sound = sound coords corners ends queries [] (survey-zero .1)
+
+  pub few-query-points : length (verticesOf queries) ≤ 256
+  few-query-points = rw (length-threes queries) (parts-known (length queries) 3 256 (queries-are queries ∙ one-row 1 _ (omega arith) (survey-zero .0)) .1)
+
+  pub few-queries : length queries ≤ 770
+  few-queries = omega (arith, few-query-points, length-threes queries)
+
+-- ---- a list with marks
+stray-no : (n c : ℕ) → not (eqb c faceEnd) && leb n c ≡ false → c ≢ faceEnd → c < n
+stray-no n c e h = leb-false n c (rw (ne-eqb c faceEnd h) at e)
+
+pub phed-known : (coords : List Float) (cs : List ℕ) (p : List Float) → phedRefusal coords cs p ≡ 0 → MarkedInside (verticesOf coords) cs × (length cs ≤ 2304)
+unfolding phedRefusal
+phed-known coords cs p e =
+    let one = row-zero 1 _ (pointsRefused coords || ltb 2304 (length cs)) (omega arith) e in
+    let two = row-zero 2 _ (numberRefused coords || numberRefused p) (omega arith) (one .1) in
+    let four = row-zero 4 [] (anyOf (strays (length (verticesOf coords))) cs) (omega arith) (two .1) in
+    let size = or-none (pointsRefused coords) (ltb 2304 (length cs)) (one .0) in (
+      record { holds = λ k h. stray-no (length (verticesOf coords)) (getD cs k 0) (any-none (strays (length (verticesOf coords))) 0 cs (four .0) k h) },
+      ltb-false 2304 _ (size .1),
+    )
+
+-- ---- the triangles of a face
+module _ (coords : List Float) (corners ends : List ℕ) (k room : ℕ) where
+  pub first-decides : {why : ℕ} → why ≡ refusalOf coords corners ends [] (k ∷ []) → why ≢ 0 → why ≡ trianglesRefusal coords corners ends k room
+  unfolding trianglesRefusal
+  first-decides f n = or-found _ f n
+
+  pub room-decides : {why : ℕ} (b : Bool) → why ≡ refusalOf coords corners ends [] (k ∷ []) → why ≡ 0 → roomRefused (getD (facesOf corners ends) k []) room ≡ b
+      → pick b 6 0 ≡ trianglesRefusal coords corners ends k room
+  unfolding trianglesRefusal firstRow
+  room-decides b f z r = or-other _ f z (rw r)
+
+-- a face of a sound cell
+pub face-sound : (coords : List Float) (corners ends : List ℕ) (k : ℕ) → Sound coords corners ends → k < length ends
+    → Inside (verticesOf coords) (getD (facesOf corners ends) k []) × (length (getD (facesOf corners ends) k []) ≤ 2048)
+face-sound coords corners ends k s h =
+    let r = rises-at 0 ends (length corners) k h (s .ordered) in
+    rw (face-at corners ends k h) (each-slice (getD (0 ∷ ends) k 0) (getD ends k 0) corners (s .inside), omega (arith, length-slice (getD (0 ∷ ends) k 0) (getD ends k 0) corners (r .1), s .few-corners))
+
+-- a face of a cell that has no empty face
+pub face-solid : (corners ends : List ℕ) (k : ℕ) → emptyRefused corners ends ≡ false → k < length ends → 0 < length (getD (facesOf corners ends) k [])
+unfolding emptyRefused
+face-solid corners ends k e h = has-corner _ (any-none isEmpty [] (facesOf corners ends) e k (rw (length-faces corners ends) h))
+
+-- ---- a cell whose faces all have corners
+pub record FacesKnown (coords : List Float) (corners ends asked : List ℕ) : Type 0 where
+  pub cell : refusalOf coords corners ends [] asked ≡ 0
+  pub sound : Sound coords corners ends
+  pub solid : emptyRefused corners ends ≡ false
+
+pub faces-known : (coords : List Float) (corners ends asked : List ℕ) → facesRefusal coords corners ends asked ≡ 0 → FacesKnown coords corners ends asked
+unfolding facesRefusal
+faces-known coords corners ends asked e =
+    let two = or-zero _ _ e in
+    record { cell = two .0; sound = sound coords corners ends [] asked (two .0); solid = one-row 5 _ (omega arith) (two .1) }
+
+-- what is known of the face k of such a cell
+pub record SolidFace (coords : List Float) (corners ends : List ℕ) (k : ℕ) : Type 0 where
+  pub ordered : T (rises 0 ends (length corners))
+  pub there : k < length ends
+  pub inside : Inside (verticesOf coords) (getD (facesOf corners ends) k [])
+  pub some : 0 < length (getD (facesOf corners ends) k [])
+
+pub face-known : (coords : List Float) (corners ends : List ℕ) (k : ℕ) → facesRefusal coords corners ends (k ∷ []) ≡ 0 → SolidFace coords corners ends k
+face-known coords corners ends k e =
+    let s = faces-known coords corners ends (k ∷ []) e in
+    let h = asked-known coords corners ends [] (k ∷ []) (s .cell) .holds 0 (omega arith) in
+    record { ordered = s .sound .ordered; there = h; inside = face-sound coords corners ends k (s .sound) h .0; some = face-solid corners ends k (s .solid) h }
+
+-- ---- clipping and the overlap
+works-known : (first second : List Float) → worksRefusal first second ≡ 0 → (length first ≤ 3072) × (length second ≤ 3072)
+unfolding worksRefusal workRefused
+works-known first second e =
+    let two = or-none _ _ (one-row 1 _ (omega arith) e) in
+    (ltb-false 3072 _ (two .0), ltb-false 3072 _ (two .1))
+
+-- what is known where the clipping of the face k is not refused
+pub record Clippable (coords : List Float) (corners ends : List ℕ) (k : ℕ) (planes first second : List Float) : Type 0 where
+  pub ordered : T (rises 0 ends (length corners))
+  pub there : k < length ends
+  pub inside : Inside (verticesOf coords) (getD (facesOf corners ends) k [])
+  pub corners-few : length (getD (facesOf corners ends) k []) ≤ 2048
+  pub planes-few : length planes ≤ 1024
+  pub first-few : length first ≤ 3072
+  pub second-few : length second ≤ 3072
+
+pub clip-known : (coords : List Float) (corners ends : List ℕ) (k : ℕ) (planes first second : List Float) → clipRefusal coords corners ends k planes first second ≡ 0
+    → Clippable coords corners ends k planes first second
+unfolding clipRefusal
+clip-known coords corners ends k planes first second e =
+    let size = or-zero _ _ e in
+    let lists = or-zero _ _ (size .1) in
+    let fours = parts-known (length planes) 4 256 (planes-are planes ∙ one-row 1 _ (omega arith) (size .0)) in
+    let works = works-known first second (lists .0) in
+    let s = sound coords corners ends [] (k ∷ []) (lists .1) in
+    let h = asked-known coords corners ends [] (k ∷ []) (lists .1) .holds 0 (omega arith) in
+    let face = face-sound coords corners ends k s h in
+    record {
+      ordered = s .ordered;
+      there = h;
+      inside = face .0;
+      corners-few = face .1;
+      planes-few = omega (arith, fours .0, fours .1);
+      first-few = works .0;
+      second-few = works .1;
+    }
+
+-- what is known where planar clipping is not refused
+pub record Planar (subject clip first second : List Float) : Type 0 where
+  pub subject-few : length subject ≤ 1024
+  pub clip-few : length clip ≤ 1024
+  pub first-few : length first ≤ 3072
+  pub second-few : length second ≤ 3072
+
+pub planar-known : (subject clip first second : List Float) → planarRefusal subject clip first second ≡ 0 → Planar subject clip first second
+unfolding planarRefusal
+planar-known subject clip first second e =
+    let lists = or-zero _ _ e in
+    let outlines = or-zero _ _ (lists .1) in
+    let works = works-known first second (lists .0) in
+    record {
+      subject-few = plane-counted subject (outlines .0) .1;
+      clip-few = plane-counted clip (outlines .1) .1;
+      first-few = works .0;
+      second-few = works .1;
+    }
+
+-- what is known where the overlap of two cells is not refused
+pub record Overlapping (coords : List Float) (corners ends : List ℕ) (others : List Float) (otherCorners otherEnds : List ℕ) (first second : List Float) : Type 0 where
+  pub one : FacesKnown coords corners ends []
+  pub other : FacesKnown others otherCorners otherEnds []
+  pub first-few : length first ≤ 3072
+  pub second-few : length second ≤ 3072
+
+pub overlap-known : (coords : List Float) (corners ends : List ℕ) (others : List Float) (otherCorners otherEnds : List ℕ) (first second : List Float)
+    → overlapRefusal coords corners ends others otherCorners otherEnds first second ≡ 0 → Overlapping coords corners ends others otherCorners otherEnds first second
+unfolding overlapRefusal
+overlap-known coords corners ends others otherCorners otherEnds first second e =
+    let lists = or-zero _ _ e in
+    let cells = or-zero _ _ (lists .1) in
+    let works = works-known first second (lists .0) in
+    record {
+      one = faces-known coords corners ends [] (cells .0);
+      other = faces-known others otherCorners otherEnds [] (cells .1);
+      first-few = works .0;
+      second-few = works .1;
+    }

@@ -1,0 +1,238 @@
+// Why the public entries refuse, 0 where they do not: each check in document 01's order.
+ghost use mathlib.Core.Path.{_≡_};
+ghost use mathlib.Core.List.{[], _∷_};
+ghost use Prim.Native.Nat.{_-_, _<_};
+ghost use lib.Dec.{ltb};
+ghost use Rattle.places.specs.Loops.{anyOf};
+ghost use Rattle.refusals.specs.Refusals.{partsRefused, listRefusal, pairsRefused, planeRefusal, cellRefusal, facesRefusal, strays, phedRefusal, queriesRefused, surveyRefusal, planesRefused, workRefused, worksRefusal, clipRefusal, planarRefusal, overlapRefusal};
+
+// Whether n numbers do not come in parts of a size, or make too many of them.
+fn parts_refused(n: usize, size: usize, most: usize) -> bool
+    requires { ⌜ 0 < size ⌝ }
+    ensures { λ r. ⌜ r ≡ partsRefused n size most ⌝ }
+{
+    if n % size != 0 {
+        return true;
+    }
+    n / size > most
+}
+
+// Not in pairs, or over 512 points.
+fn pairs_refused(ps: &[f64]) -> bool
+    ensures { λ r. ⌜ r ≡ pairsRefused (now (ps .entry)) ⌝ }
+{
+    parts_refused(ps.len(), 2, 512)
+}
+
+// Query values not in threes, or over 256 query points.
+fn queries_refused(queries: &[f64]) -> bool
+    ensures { λ r. ⌜ r ≡ queriesRefused (now (queries .entry)) ⌝ }
+{
+    parts_refused(queries.len(), 3, 256)
+}
+
+// Not in fours, or over 256 planes.
+fn planes_refused(planes: &[f64]) -> bool
+    ensures { λ r. ⌜ r ≡ planesRefused (now (planes .entry)) ⌝ }
+{
+    parts_refused(planes.len(), 4, 256)
+}
+
+// Over 3,072 numbers.
+fn work_refused(l: &[f64]) -> bool
+    ensures { λ r. ⌜ r ≡ workRefused (now (l .entry)) ⌝ }
+{
+    l.len() > 3072
+}
+
+// Why a list of points of space is refused.
+// Ruled out: a NaN found before a list that is not in threes; an empty list let through.
+pub fn list_refusal(coords: &[f64]) -> u8
+    ensures { λ r. ⌜ r ≡ listRefusal (now (coords .entry)) ⌝ }
+{
+    if cell::points_refused(coords) {
+        return 1;
+    }
+    if cell::number_refused(coords) {
+        return 2;
+    }
+    0
+}
+
+// Why a list of points of the plane is refused.
+// Ruled out: an empty list refused; a limit of 512 numbers for 512 points.
+pub fn plane_refusal(ps: &[f64]) -> u8
+    ensures { λ r. ⌜ r ≡ planeRefusal (now (ps .entry)) ⌝ }
+{
+    if pairs_refused(ps) {
+        return 1;
+    }
+    if cell::number_refused(ps) {
+        return 2;
+    }
+    0
+}
+
+// Why a cell of which nothing else is asked is refused.
+// Ruled out: every cell refused; an index judged before the ends.
+pub fn cell_refusal(coords: &[f64], corners: &[u32], ends: &[u32]) -> u8
+    ensures { λ r. ⌜ r ≡ cellRefusal (now (coords .entry)) (now (corners .entry)) (now (ends .entry)) ⌝ }
+{
+    cell::refusal(coords, corners, ends, &coords[..0], &corners[..0])
+}
+
+// Why a cell is refused whose faces are all to have corners; `asked` are the numbers of faces that are asked for.
+// Ruled out: an empty face found before a corner that is out of range; only the faces that are asked for tested for corners.
+pub fn faces_refusal(coords: &[f64], corners: &[u32], ends: &[u32], asked: &[u32]) -> u8
+    ensures { λ r. ⌜ r ≡ facesRefusal (now (coords .entry)) (now (corners .entry)) (now (ends .entry)) (now (asked .entry)) ⌝ }
+{
+    let why = cell::refusal(coords, corners, ends, &coords[..0], asked);
+    if why != 0 {
+        return why;
+    }
+    if cell::empty_refused(corners, ends) {
+        return 5;
+    }
+    0
+}
+
+// Whether `room` places are too few for the triangles of a face of n corners.
+// Ruled out: a place asked for a face of two corners; one place too few let through.
+pub fn room_refused(n: usize, room: usize) -> bool
+    ensures { λ r. ⌜ r ≡ ltb room (n - 2) ⌝ }
+{
+    if n < 2 { false } else { room < n - 2 }
+}
+
+// Whether an entry that is not the mark is not below n.
+fn strays_in(n: usize, cs: &[u32]) -> bool
+    ensures { λ r. ⌜ r ≡ anyOf (strays n) (now (cs .entry)) ⌝ }
+{
+    let m = cs.len();
+    let mut i = 0;
+    while i < m {
+        if strays(n, places::corner(cs, i)) {
+            return true;
+        }
+        i += 1;
+    }
+    false
+}
+
+fn strays(n: usize, c: usize) -> bool
+    ensures { λ r. ⌜ r ≡ strays n c ⌝ }
+{
+    if c == 4294967295 { false } else { n <= c }
+}
+
+// Why point_in_phed refuses.
+// Ruled out: a mark refused as an index; a list of 2,304 entries refused.
+pub fn phed_refusal(coords: &[f64], cs: &[u32], p: [f64; 3]) -> u8
+    ensures { λ r. ⌜ r ≡ phedRefusal (now (coords .entry)) (now (cs .entry)) p ⌝ }
+{
+    if cell::points_refused(coords) {
+        return 1;
+    }
+    if cs.len() > 2304 {
+        return 1;
+    }
+    if cell::number_refused(coords) {
+        return 2;
+    }
+    if cell::number_refused(&p) {
+        return 2;
+    }
+    if strays_in(coords.len() / 3, cs) {
+        return 4;
+    }
+    0
+}
+
+// Why a cell or its query points are refused.
+// Ruled out: query values that are not looked at; too many query points found only after the cell's numbers.
+pub fn survey_refusal(coords: &[f64], corners: &[u32], ends: &[u32], queries: &[f64]) -> u8
+    ensures { λ r. ⌜ r ≡ surveyRefusal (now (coords .entry)) (now (corners .entry)) (now (ends .entry)) (now (queries .entry)) ⌝ }
+{
+    if queries_refused(queries) {
+        return 1;
+    }
+    cell::refusal(coords, corners, ends, queries, &corners[..0])
+}
+
+// Why the two work lists are refused.
+fn works_refusal(first: &[f64], second: &[f64]) -> u8
+    ensures { λ r. ⌜ r ≡ worksRefusal (now (first .entry)) (now (second .entry)) ⌝ }
+{
+    if work_refused(first) {
+        return 1;
+    }
+    if work_refused(second) {
+        return 1;
+    }
+    0
+}
+
+// Why the clipping of a face by planes is refused, room apart. The planes' own numbers are taken as they are.
+// Ruled out: a NaN in a plane refused; a work list of 3,073 numbers let through because the other is short.
+pub fn clip_refusal(
+    coords: &[f64],
+    corners: &[u32],
+    ends: &[u32],
+    face: u32,
+    planes: &[f64],
+    first: &[f64],
+    second: &[f64],
+) -> u8
+    ensures { λ r. ⌜ r ≡ clipRefusal (now (coords .entry)) (now (corners .entry)) (now (ends .entry)) face (now (planes .entry)) (now (first .entry)) (now (second .entry)) ⌝ }
+{
+    if planes_refused(planes) {
+        return 1;
+    }
+    let size = works_refusal(first, second);
+    if size != 0 {
+        return size;
+    }
+    let asked = [face];
+    cell::refusal(coords, corners, ends, &coords[..0], &asked)
+}
+
+// Why planar clipping is refused, room apart.
+// Ruled out: the clip list's size judged before the subject's numbers; an empty clip list refused.
+pub fn planar_refusal(subject: &[f64], clip: &[f64], first: &[f64], second: &[f64]) -> u8
+    ensures { λ r. ⌜ r ≡ planarRefusal (now (subject .entry)) (now (clip .entry)) (now (first .entry)) (now (second .entry)) ⌝ }
+{
+    let size = works_refusal(first, second);
+    if size != 0 {
+        return size;
+    }
+    let why = plane_refusal(subject);
+    if why != 0 {
+        return why;
+    }
+    plane_refusal(clip)
+}
+
+// Why the overlap of two cells is refused, room apart.
+// Ruled out: the second cell judged before the first; the second cell's size judged with the first's.
+pub fn overlap_refusal(
+    coords: &[f64],
+    corners: &[u32],
+    ends: &[u32],
+    others: &[f64],
+    other_corners: &[u32],
+    other_ends: &[u32],
+    first: &[f64],
+    second: &[f64],
+) -> u8
+    ensures { λ r. ⌜ r ≡ overlapRefusal (now (coords .entry)) (now (corners .entry)) (now (ends .entry)) (now (others .entry)) (now («other_corners» .entry)) (now («other_ends» .entry)) (now (first .entry)) (now (second .entry)) ⌝ }
+{
+    let size = works_refusal(first, second);
+    if size != 0 {
+        return size;
+    }
+    let why = faces_refusal(coords, corners, ends, &corners[..0]);
+    if why != 0 {
+        return why;
+    }
+    faces_refusal(others, other_corners, other_ends, &corners[..0])
+}

@@ -1,0 +1,4 @@
+pub mod Laying
+pub mod Tables
+pub mod Wedge
+pub mod Worked

@@ -1,0 +1,47 @@
+-- The two counts of a wedge: exactly one of them is odd where an odd number of all five faces is crossed.
+use mathlib.Core.Path.{_≡_, refl, sym, _∙_}
+use mathlib.Core.Bool.{Bool, true, false, not, Bool·beq}
+use mathlib.Core.List.{List, [], _∷_, _++_}
+use Prim.Native.Nat.{ℕ}
+use Rattle.places.specs.Loops.{pick, foldList}
+use Rattle.places.proofs.Loops.{fold-append}
+use Rattle.flat.specs.Points.{Point}
+use Rattle.inside.specs.Ray.{differ, rayCrosses}
+use Rattle.inside.specs.Inside.{crossFace, containsOf}
+use Rattle.shapes.specs.Tables.{wedge6TriFaces, wedge6QuadFaces}
+use Rattle.shapes.specs.Shapes.{wedgeContainsOf}
+
+differ-is : (a b : Bool) → not (Bool·beq a b) ≡ differ a b
+differ-is true true = refl
+differ-is true false = refl
+differ-is false true = refl
+differ-is false false = refl
+
+-- two answers that are not the same
+pub differs : {a b c d : Bool} → a ≡ c → b ≡ d → not (Bool·beq a b) ≡ differ c d
+differs {a} {b} {c} {d} e f = rw (e, f) (differ-is c d)
+
+-- a face that is crossed turns the answer round, before the others or after them
+turn : (crossed b rest : Bool) → differ (pick crossed (not b) b) rest ≡ differ b (differ (pick crossed true false) rest)
+turn true true true = refl
+turn true true false = refl
+turn true false rest = refl
+turn false b rest = refl
+
+module _ (vs : List Point) (p : Point) where
+  turned : (fs : List (List ℕ)) (b : Bool) → foldList (crossFace vs p) fs b ≡ differ b (foldList (crossFace vs p) fs false)
+  unfolding foldList crossFace
+  turned [] true = refl
+  turned [] false = refl
+  turned (f ∷ fs) b =
+      let crossed = rayCrosses vs p f in
+      rw (turned fs (pick crossed (not b) b), turned fs (pick crossed true false)) (turn crossed b (foldList (crossFace vs p) fs false))
+
+  pub both-counts : (fs gs : List (List ℕ)) → containsOf vs p (fs ++ gs) ≡ differ (containsOf vs p fs) (containsOf vs p gs)
+  unfolding containsOf
+  both-counts fs gs = fold-append (crossFace vs p) fs gs false ∙ turned gs (foldList (crossFace vs p) fs false)
+
+  -- a wedge contains a point when the crossings of its five faces are odd, as any cell does
+  pub wedge-as-cell : wedgeContainsOf p vs ≡ containsOf vs p (wedge6QuadFaces ++ wedge6TriFaces)
+  unfolding wedgeContainsOf
+  wedge-as-cell = sym (both-counts wedge6QuadFaces wedge6TriFaces)

@@ -1,0 +1,96 @@
+// Doubled points dropped in place, as remove_consecutive_duplicates does.
+ghost use mathlib.Core.Path.{_≡_};
+ghost use Prim.Native.Nat.{_<_, _≤_};
+ghost use lib.ListN.{length, take};
+ghost use Rattle.flat.specs.Points.{verticesOf};
+ghost use Rattle.trim.specs.Doubled.{dist3Of, reachOf, toleranceOf, spacedOf, openedOf, withoutDoubled};
+
+// How far two points are apart.
+// Ruled out: the squares' sum without the root; the squares added in another order, which rounds otherwise.
+pub fn dist3(a: [f64; 3], b: [f64; 3]) -> f64
+    ensures { λ r. ⌜ r ≡ dist3Of a b ⌝ }
+{
+    let x = a[0] - b[0];
+    let y = a[1] - b[1];
+    let z = a[2] - b[2];
+    floats::root(x * x + y * y + z * z)
+}
+
+// The largest magnitude of a point's coordinates and of m.
+fn reach(p: [f64; 3], m: f64) -> f64
+    ensures { λ r. ⌜ r ≡ reachOf p m ⌝ }
+{
+    let x = floats::magnitude(p[0]);
+    let y = floats::magnitude(p[1]);
+    let z = floats::magnitude(p[2]);
+    floats::largest(m, floats::largest(floats::largest(x, y), z))
+}
+
+// Points no farther apart than this are doubled. The constant is 2^-46.
+// Ruled out: one tolerance for coordinates of every size; the largest coordinate taken with its sign.
+pub fn tolerance(s: &[f64]) -> f64
+    ensures { λ r. ⌜ r ≡ toleranceOf (verticesOf (now (s .entry))) ⌝ }
+{
+    let n = s.len() / 3;
+    let mut m = 0.0;
+    let mut i = 0;
+    while i < n {
+        m = reach(flat::space::vertex(s, i), m);
+        i += 1;
+    }
+    1.4210854715202004e-14 * m
+}
+
+// Each point that is no farther than eps from the one kept before it is dropped; the rest move up.
+fn space_out(s: &mut [f64], eps: f64) -> usize
+    requires { ⌜ 0 < length (verticesOf (now s)) ⌝ }
+    requires { ⌜ length (now s) ≤ 3072 ⌝ }
+    ensures { λ r. ⌜ r ≡ length (spacedOf eps (verticesOf (now (s .entry)))) ⌝ }
+    ensures { λ r. ⌜ take r (verticesOf (now (s .exit))) ≡ spacedOf eps (verticesOf (now (s .entry))) ⌝ }
+{
+    let n = s.len() / 3;
+    let mut last = flat::space::vertex(s, 0);
+    let mut kept = 1;
+    let mut i = 1;
+    while i < n {
+        let p = flat::space::vertex(s, i);
+        i += 1;
+        if dist3(p, last) > eps {
+            crate::put(s, kept, p);
+            kept += 1;
+            last = p;
+        }
+    }
+    kept
+}
+
+// How many of a list's points are left when the last goes where it doubles the first.
+fn opened(s: &[f64], eps: f64) -> usize
+    requires { ⌜ length (now s) ≤ 3072 ⌝ }
+    ensures { λ r. ⌜ r ≡ length (openedOf eps (verticesOf (now (s .entry)))) ⌝ }
+{
+    let n = s.len() / 3;
+    if n < 2 {
+        return n;
+    }
+    let d = dist3(flat::space::vertex(s, 0), flat::space::vertex(s, n - 1));
+    if d <= eps {
+        return n - 1;
+    }
+    n
+}
+
+// Doubled points dropped: so many are left, at the front.
+// Ruled out: dropping the first of two doubled points; leaving the last where it doubles the first.
+pub fn remove_consecutive_duplicates(s: &mut [f64]) -> usize
+    requires { ⌜ length (now s) ≤ 3072 ⌝ }
+    ensures { λ r. ⌜ r ≡ length (withoutDoubled (verticesOf (now (s .entry)))) ⌝ }
+    ensures { λ r. ⌜ take r (verticesOf (now (s .exit))) ≡ withoutDoubled (verticesOf (now (s .entry))) ⌝ }
+{
+    if s.len() < 3 {
+        return 0;
+    }
+    let eps = tolerance(s);
+    let n = space_out(s, eps);
+    opened(&s[0..n * 3], eps)
+}

@@ -1,0 +1,6 @@
+pub mod Parting
+pub mod Turning
+pub mod Turned
+pub mod Computed
+pub mod Worked
+pub mod Twice

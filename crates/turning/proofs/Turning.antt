@@ -1,0 +1,68 @@
+-- The loop that turns the faces of a cell, each in its own stretch of the corner list.
+use mathlib.Core.Path.{_≡_, refl, sym, _∙_}
+use mathlib.Core.Bool.{true, false}
+use mathlib.Core.List.{List, [], _++_, map, append-assoc, append-nil}
+use Prim.Native.Nat.{ℕ, _+_, _-_, _<_, _≤_}
+use native.Mathlib.Omega.{arith}
+use lib.Dec.{T, eqb→eq}
+use lib.ListN.{length, getD, take, drop, drop-of-length-le, length-append}
+use lib.Seq.{slice, length-slice, length-take-le, take-all, take-at, drop-drop}
+use borrow.Rule.Slice.PartMut.{putMid, same-len-mid, drop-put}
+use Rattle.places.specs.Stored.{joined}
+use Rattle.cell.specs.Faces.{facesFrom, facesOf, rises}
+use Rattle.cell.specs.Refusals.{isEmpty, emptyRefused}
+use Rattle.cell.proofs.Faces.{Step, FaceAsking, faces-start, faces-step, faces-yes, faces-no, faces-more, part-is}
+use Rattle.cell.proofs.Refusals.{empty-yes, empty-no}
+
+-- ---- a loop that turns faces by f: from face k on, which starts at p, the corners c come to `whole`. From p on they are still the first ones, c₀.
+pub record Turning (f : List ℕ → List ℕ) (c₀ es whole : List ℕ) (p k : ℕ) (c : List ℕ) : Type 0 where
+  pub faces : FaceAsking isEmpty c₀ es false p k
+  pub long : length c ≡ length c₀
+  pub ahead : drop p c ≡ drop p c₀
+  pub so : take p c ++ joined (map f (facesFrom p c₀ (drop k es))) ≡ whole
+
+module _ {f : List ℕ → List ℕ} {c₀ es whole : List ℕ} where
+  pub turn-start : T (rises 0 es (length c₀)) → emptyRefused c₀ es ≡ false → joined (map f (facesOf c₀ es)) ≡ whole → Turning f c₀ es whole 0 0 c₀
+  unfolding emptyRefused facesOf
+  turn-start t n e = record { faces = faces-start t n; long = refl; ahead = refl; so = e }
+
+  module _ {p k e : ℕ} {c : List ℕ} (t : Turning f c₀ es whole p k c) (h : k < length es) (q : e ≡ getD es k 0) where
+    pub turn-step : Step p es (length c₀) k e
+    turn-step = faces-step (t .faces) h q
+
+    -- no face is empty
+    apart : p ≡ e → ⊥
+    apart g = let z : true ≡ false = faces-yes (t .faces) h q (empty-yes p e c₀ g) in absurd (let w : _≡_ {A = ℕ} 0 1 = cc in omega arith)
+
+    -- what is lent of the corners is the face as it was
+    pub turn-part : take (e - p) (drop p c) ≡ slice p e c₀
+    turn-part = rw (t .ahead) (part-is p e c₀ (turn-step .from))
+
+    pub turn-some : 0 < length (take (e - p) (drop p c))
+    turn-some = rw (turn-part, length-slice p e c₀ (turn-step .upto)) (let s = turn-step in let n : p ≡ e → ⊥ = apart in omega arith)
+
+    -- the face is turned in its stretch, and the corners before and after it stay
+    pub turn-turn : {turned : List ℕ} → ((l : List ℕ) → length (f l) ≡ length l) → turned ≡ f (take (e - p) (drop p c)) → Turning f c₀ es whole e (k + 1) (putMid p (e - p) c turned)
+    unfolding joined
+    turn-turn {turned} keeps g =
+        let s = turn-step in
+        let z = t .long in
+        let m : length turned ≡ length (take (e - p) (drop p c)) = rw g (keeps (take (e - p) (drop p c))) in
+        let l : length turned ≡ e - p = m ∙ rw turn-part (length-slice p e c₀ (s .upto)) in
+        let n : length (take p c ++ turned) ≡ e = rw (length-append, l, length-take-le p c (omega arith)) (omega arith) in
+        let w : p + (e - p) ≡ e = omega arith in
+        let a : drop e c ≡ drop e c₀ = rw (← w, ← drop-drop (e - p) p c, ← drop-drop (e - p) p c₀, t .ahead) in
+        record {
+          faces = faces-no (t .faces) h q (empty-no p e c₀ (s .from) (s .upto) apart);
+          long = same-len-mid p (e - p) c turned m ∙ t .long;
+          ahead = drop-put p e c turned (s .from) (omega arith) l ∙ a;
+          so = rw (← append-assoc (take p c) turned (drop (e - p) (drop p c)), take-at (take p c ++ turned) (drop (e - p) (drop p c)) e n, append-assoc, g, turn-part, q) (sym (rw (faces-more p c₀ es k h)) ∙ t .so);
+        }
+
+  pub turn-end : {p k : ℕ} {c : List ℕ} → Turning f c₀ es whole p k c → length es ≤ k → c ≡ whole
+  unfolding joined
+  turn-end {p} {k} {c} t h =
+      let d : drop k es ≡ [] = drop-of-length-le es h in
+      let n : p ≡ length c₀ = eqb→eq p (length c₀) (rw d at (t .faces .ordered)) in
+      let z = t .long in
+      sym (rw (d, append-nil (take p c), take-all p c (omega arith))) ∙ t .so

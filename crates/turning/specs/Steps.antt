@@ -1,0 +1,15 @@
+-- What the steps of the convexity test promise each other; no promise of a public function speaks of these.
+use mathlib.Core.Bool.{true}
+use lib.Ieee.{Float}
+use Rattle.places.specs.Loops.{pick}
+use Rattle.flat.specs.Points.{Point}
+use Rattle.turning.specs.Convexity.{above, below}
+use Rattle.turning.specs.declared.Seen.{Seen}
+
+-- what is seen when p is looked at besides
+unfoldable pub seeOf : Point → Float → Float → Point → Seen → Seen
+seeOf n d eps p seen =
+    record {
+      above = pick (above n d eps p) true (seen .above);
+      below = pick (below n d eps p) true (seen .below);
+    }

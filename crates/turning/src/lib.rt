@@ -1,0 +1,228 @@
+// Convexity of a cell, and its faces turned outward.
+ghost use mathlib.Core.Path.{_≡_};
+ghost use mathlib.Core.Bool.{Bool, false, _&&_};
+ghost use Prim.Native.Nat.{ℕ, _<_};
+ghost use mathlib.Core.List.{reverse};
+ghost use lib.ListN.{length};
+ghost use Rattle.places.specs.Loops.{pick, anyOf};
+ghost use Rattle.places.specs.Lists.{swapped};
+ghost use Rattle.flat.specs.Points.{verticesOf, vertexOf, Inside};
+ghost use Rattle.cell.specs.Faces.{facesOf};
+ghost use Rattle.cell.specs.Refusals.{emptyRefused, Sound};
+ghost use Rattle.turning.specs.Convexity.{toleranceOf, hasCorner, othersOf, planeParts, faceParts, computeConvexityOf, isConvexOf};
+ghost use Rattle.turning.specs.Turning.{awayOf, outwardOf, turnedOf};
+ghost use Rattle.turning.specs.Steps.{seeOf};
+
+// What was seen of the vertices against a plane: one above it, one below it.
+struct Seen {
+    above: bool,
+    below: bool,
+}
+
+// How near to the plane of a normal a vertex counts as on it.
+fn tolerance(n: [f64; 3]) -> f64
+    ensures { λ r. ⌜ r ≡ toleranceOf n ⌝ }
+{
+    let x = floats::magnitude(n[0]);
+    let y = floats::magnitude(n[1]);
+    let z = floats::magnitude(n[2]);
+    1e-12 * floats::largest(floats::largest(floats::largest(x, y), z), 1.0)
+}
+
+// Whether a vertex is among the corners of a face.
+fn has_corner(face: &[u32], v: usize) -> bool
+    ensures { λ r. ⌜ r ≡ hasCorner (now (face .entry)) v ⌝ }
+{
+    let n = face.len();
+    let mut i = 0;
+    while i < n {
+        if v == places::corner(face, i) {
+            return true;
+        }
+        i += 1;
+    }
+    false
+}
+
+// What is seen when p is looked at besides.
+fn see(n: [f64; 3], d: f64, eps: f64, p: [f64; 3], seen: Seen) -> Seen
+    ensures { λ r. ⌜ r ≡ seeOf n d eps p seen ⌝ }
+{
+    let v = planes::dot(n, p) + d;
+    if v > eps {
+        return Seen {
+            above: true,
+            below: seen.below,
+        };
+    }
+    if v < -eps {
+        return Seen {
+            above: seen.above,
+            below: true,
+        };
+    }
+    seen
+}
+
+// The same for the vertex v; a corner of the face is passed over.
+fn look(coords: &[f64], face: &[u32], v: usize, n: [f64; 3], d: f64, eps: f64, seen: Seen) -> Seen
+    requires { ⌜ v < length (verticesOf (now coords)) ⌝ }
+    ensures { λ r. ⌜ r ≡ pick (hasCorner (now (face .entry)) v) seen (seeOf n d eps (vertexOf (verticesOf (now (coords .entry))) v) seen) ⌝ }
+{
+    if has_corner(face, v) {
+        return seen;
+    }
+    see(n, d, eps, flat::space::vertex(coords, v), seen)
+}
+
+// Whether both were seen.
+fn both(seen: Seen) -> bool
+    ensures { λ r. ⌜ r ≡ (seen .above && seen .below) ⌝ }
+{
+    if seen.above { seen.below } else { false }
+}
+
+// Whether a plane parts the vertices that are no corners of the face. The loop ends as soon as one of each side was seen.
+fn plane_parts(coords: &[f64], face: &[u32], n: [f64; 3], d: f64, eps: f64) -> bool
+    ensures { λ r. ⌜ r ≡ planeParts n d eps (othersOf (verticesOf (now (coords .entry))) (now (face .entry))) ⌝ }
+{
+    let count = coords.len() / 3;
+    let mut seen = Seen {
+        above: false,
+        below: false,
+    };
+    let mut v = 0;
+    while v < count {
+        seen = look(coords, face, v, n, d, eps, seen);
+        if both(seen) {
+            return true;
+        }
+        v += 1;
+    }
+    false
+}
+
+// Whether a face of 3 or more corners has other vertices on both sides.
+fn face_parts(coords: &[f64], face: &[u32]) -> bool
+    requires { ⌜ Inside (verticesOf (now coords)) (now face) ⌝ }
+    ensures { λ r. ⌜ r ≡ faceParts (verticesOf (now (coords .entry))) (now (face .entry)) ⌝ }
+{
+    if face.len() < 3 {
+        return false;
+    }
+    let n = flat::space::face_normal(coords, face);
+    let d = planes::offset(n, flat::space::vertex_at(coords, face, 0));
+    plane_parts(coords, face, n, d, tolerance(n))
+}
+
+// Whether a face of the cell does.
+fn any_parts(coords: &[f64], corners: &[u32], ends: &[u32]) -> bool
+    requires { ⌜ Sound (now coords) (now corners) (now ends) ⌝ }
+    ensures { λ r. ⌜ r ≡ anyOf (faceParts (verticesOf (now (coords .entry)))) (facesOf (now (corners .entry)) (now (ends .entry))) ⌝ }
+{
+    let n = ends.len();
+    let mut start = 0;
+    let mut k = 0;
+    while k < n {
+        let end = places::corner(ends, k);
+        let face = cell::face(corners, start, end);
+        if face_parts(coords, face) {
+            return true;
+        }
+        start = end;
+        k += 1;
+    }
+    false
+}
+
+// Whether each face has all other vertices on one side; a cell of under 4 vertices is convex.
+// Ruled out: a face's own corners counted, which a face that is not flat has on both sides; a vertex right at the tolerance taken for one off the plane.
+pub fn compute_convexity(coords: &[f64], corners: &[u32], ends: &[u32]) -> bool
+    requires { ⌜ Sound (now coords) (now corners) (now ends) ⌝ }
+    ensures { λ r. ⌜ r ≡ computeConvexityOf (verticesOf (now (coords .entry))) (facesOf (now (corners .entry)) (now (ends .entry))) ⌝ }
+{
+    if coords.len() / 3 < 4 {
+        return true;
+    }
+    !any_parts(coords, corners, ends)
+}
+
+// Whether a cell is convex: what its description says, and where that is unknown, what its faces say.
+// Ruled out: asking the faces although the description knows; an unknown shape taken for a convex one.
+pub fn is_convex(c: cell::Cell, coords: &[f64], corners: &[u32], ends: &[u32]) -> bool
+    requires { ⌜ Sound (now coords) (now corners) (now ends) ⌝ }
+    ensures { λ r. ⌜ r ≡ isConvexOf (c .convexity) (verticesOf (now (coords .entry))) (facesOf (now (corners .entry)) (now (ends .entry))) ⌝ }
+{
+    let shape = c.convexity;
+    match shape {
+        cell::Convexity::Convex => true,
+        cell::Convexity::Concave => false,
+        cell::Convexity::Unknown => compute_convexity(coords, corners, ends),
+    }
+}
+
+// The corners at two places changed for each other.
+fn swap_corners(face: &mut [u32], i: usize, j: usize)
+    requires { ⌜ i < length (now face) ⌝ }
+    requires { ⌜ j < length (now face) ⌝ }
+    ensures { λ _. ⌜ now (face .exit) ≡ swapped 0 i j (now (face .entry)) ⌝ }
+{
+    let a = face[i];
+    let b = face[j];
+    face[i] = b;
+    face[j] = a;
+}
+
+// The corners in the other order: each of the first half changes places with the one that is as far from the end.
+fn reverse_corners(face: &mut [u32])
+    ensures { λ _. ⌜ now (face .exit) ≡ reverse (now (face .entry)) ⌝ }
+{
+    let n = face.len();
+    let half = n / 2;
+    let mut i = 0;
+    while i < half {
+        swap_corners(face, i, n - 1 - i);
+        i += 1;
+    }
+}
+
+// How far a face looks away from a reference point.
+fn away(coords: &[f64], face: &[u32], reference: [f64; 3]) -> f64
+    requires { ⌜ Inside (verticesOf (now coords)) (now face) ⌝ }
+    requires { ⌜ 0 < length (now face) ⌝ }
+    ensures { λ r. ⌜ r ≡ awayOf (verticesOf (now (coords .entry))) reference (now (face .entry)) ⌝ }
+{
+    let n = flat::space::face_normal(coords, face);
+    let p = flat::space::vertex_at(coords, face, 0);
+    planes::dot(n, flat::minus3(p, reference))
+}
+
+// A face turned outward, in place.
+fn turn_face(coords: &[f64], face: &mut [u32], reference: [f64; 3])
+    requires { ⌜ Inside (verticesOf (now coords)) (now face) ⌝ }
+    requires { ⌜ 0 < length (now face) ⌝ }
+    ensures { λ _. ⌜ now (face .exit) ≡ outwardOf (verticesOf (now (coords .entry))) reference (now (face .entry)) ⌝ }
+{
+    if away(coords, face, reference) < 0.0 {
+        reverse_corners(face);
+    }
+}
+
+// The faces of a cell turned outward, each in its own stretch of the corner list.
+// Ruled out: turning the faces whose normal looks away from the centroid; reversing the whole corner list, which lays each face in another's stretch.
+pub fn into_ccw(coords: &[f64], corners: &mut [u32], ends: &[u32])
+    requires { ⌜ Sound (now coords) (now corners) (now ends) ⌝ }
+    requires { ⌜ emptyRefused (now corners) (now ends) ≡ false ⌝ }
+    ensures { λ _. ⌜ now (corners .exit) ≡ turnedOf (verticesOf (now (coords .entry))) (facesOf (now (corners .entry)) (now (ends .entry))) ⌝ }
+{
+    let reference = flat::space::vertex_centroid(coords);
+    let n = ends.len();
+    let mut start = 0;
+    let mut k = 0;
+    while k < n {
+        let end = places::corner(ends, k);
+        turn_face(coords, &mut corners[start..end], reference);
+        start = end;
+        k += 1;
+    }
+}

@@ -1,0 +1,19 @@
+use borrow.Author.Needs.{needs}
+use Rattle.values.proofs.put_clipped.Statement.{statement}
+use Rattle.values.proofs.put_clipped.Tie as tie
+
+pub put-clipped-spec : {M : Type 1} → statement M
+put-clipped-spec =
+    tie.close
+    (tie.spec
+    (λ c. search needs)
+    (λ c κs. search needs)
+    (λ c. search needs)
+    (λ c κs. search needs)
+    (λ c κs. search needs)
+    (λ c. search needs)
+    (λ c. search needs)
+    (λ c. (rw (c .before .before .before .before .enum-told .given .1) (cc), rw (c .before .before .before .before .enum-told .given .1) (cc)))
+    (λ c. search needs)
+    (λ c. (rw (c .before .before .before .before .before .before .a .given .1) (cc), rw (c .before .before .before .before .before .before .a .given .1) (cc)))
+    (λ c. search needs))

@@ -1,0 +1,14 @@
+use borrow.Author.Needs.{needs}
+use Rattle.values.proofs.put_count.Statement.{statement}
+use Rattle.values.proofs.put_count.Tie as tie
+
+pub put-count-spec : {M : Type 1} → statement M
+put-count-spec =
+    tie.close
+    (tie.spec
+    (λ c. search needs)
+    (λ c κs. search needs)
+    (λ c. search needs)
+    (λ c. search needs)
+    (λ c. (rw (c .before .before .before .before .before .a .given .1) (cc), rw (c .before .before .before .before .before .a .given .1) (cc)))
+    (λ c. search needs))

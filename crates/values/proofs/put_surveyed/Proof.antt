@@ -1,0 +1,15 @@
+use borrow.Author.Needs.{needs}
+use Rattle.values.proofs.put_surveyed.Statement.{statement}
+use Rattle.values.proofs.put_surveyed.Tie as tie
+
+pub put-surveyed-spec : {M : Type 1} → statement M
+put-surveyed-spec =
+    tie.close
+    (tie.spec
+    (λ c. search needs)
+    (λ c κs. search needs)
+    (λ c. search needs)
+    (λ c. search needs)
+    (λ c. search needs)
+    (λ c. (rw (c .before .before .before .before .before .before .before .before .a .given .1) (cc), (rw (c .before .before .before .before .before .before .before .before .a .given .1) (cc), rw (c .before .before .before .before .before .before .before .before .a .given .1) (cc))))
+    (λ c. (cc, (cc, cc))))

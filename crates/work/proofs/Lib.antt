@@ -1,0 +1,5 @@
+pub mod Filling
+pub mod Wiping
+pub mod Alternation
+pub mod Endings
+pub mod Clearing

@@ -8,8 +8,10 @@ use std::hint::black_box;
 use oracle::Shape;
 use oracle::plain::polyhedron;
 
+use crate::bench::print_row;
 use crate::cells::{self, Cell};
-use crate::{Outcome, bench, bench_cut, compare_cells, faces, ours};
+use crate::compare_cells::is_closed;
+use crate::{Outcome, bench, bench_cut, faces, ours};
 
 /// Corners of the faces that are cut.
 const SIZES: [usize; 6] = [3, 4, 8, 16, 64, 256];
@@ -18,56 +20,37 @@ const SIZES: [usize; 6] = [3, 4, 8, 16, 64, 256];
 const INSIDE: [f64; 3] = [0.25, 0.31, 0.37];
 
 pub fn run(words: &[String]) -> Result<Outcome, String> {
-    if let Some(word) = words.first() {
-        return Err(format!("bench-cells takes no argument, and got `{word}`"));
-    }
-    bench::print_head("entry");
-    print_rows("cube", &cells::unit_cube());
-    print_rows("60 faces", &cells::sphere(6, 10));
-    for size in SIZES {
-        bench_cut::print_row(&format!("triangles, {size} corners"), &faces::regular(size));
-    }
-    Ok(Outcome::Equal)
+    bench::run(words, "entry", || {
+        print_rows("cube", &cells::unit_cube());
+        print_rows("60 faces", &cells::sphere(6, 10));
+        for size in SIZES {
+            bench_cut::print_row(&format!("triangles, {size} corners"), &faces::regular(size));
+        }
+    })
 }
 
 fn print_rows(name: &str, cell: &Cell) {
     let rust = polyhedron(cell.for_the_rust(), Shape::Unknown);
     let (mut one, mut three, mut yes) = ([0.0], [0.0; 3], [0]);
-    bench::print_row(
+    print_row(
         &format!("volume, {name}"),
-        || {
-            black_box(ours::volume(black_box(cell), &mut one));
-        },
-        || {
-            black_box(black_box(&rust).volume());
-        },
+        || ours::volume(black_box(cell), &mut one),
+        || black_box(&rust).volume(),
     );
-    bench::print_row(
+    print_row(
         &format!("contains, {name}"),
-        || {
-            black_box(ours::contains(black_box(cell), INSIDE, &mut yes));
-        },
-        || {
-            black_box(black_box(&rust).contains(&INSIDE));
-        },
+        || ours::contains(black_box(cell), INSIDE, &mut yes),
+        || black_box(&rust).contains(&INSIDE),
     );
-    bench::print_row(
+    print_row(
         &format!("geometric_centroid, {name}"),
-        || {
-            black_box(ours::geometric_centroid(black_box(cell), &mut three));
-        },
-        || {
-            black_box(black_box(&rust).geometric_centroid());
-        },
+        || ours::geometric_centroid(black_box(cell), &mut three),
+        || black_box(&rust).geometric_centroid(),
     );
     // The Rust has no such test: its column is the plain count in a table of sides.
-    bench::print_row(
+    print_row(
         &format!("closed, {name}"),
-        || {
-            black_box(ours::closed(black_box(cell), &mut yes));
-        },
-        || {
-            black_box(compare_cells::is_closed(black_box(cell)));
-        },
+        || ours::closed(black_box(cell), &mut yes),
+        || is_closed(black_box(cell)),
     );
 }

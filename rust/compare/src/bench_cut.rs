@@ -14,38 +14,31 @@ const SIZES: [usize; 11] = [3, 4, 8, 12, 16, 17, 32, 33, 64, 128, 256];
 const SEED: u64 = 1;
 
 pub fn run(words: &[String]) -> Result<Outcome, String> {
-    if let Some(word) = words.first() {
-        return Err(format!("bench-cut takes no argument, and got `{word}`"));
-    }
-    bench::print_head("outline, corners");
-    for size in SIZES {
-        print_row(&format!("regular {size}"), &faces::regular(size));
-    }
-    let mut random = Random::new(SEED);
-    for size in SIZES {
-        print_row(&format!("star {size}"), &faces::star(size, &mut random));
-    }
-    Ok(Outcome::Equal)
+    bench::run(words, "outline, corners", || {
+        for size in SIZES {
+            print_row(&format!("regular {size}"), &faces::regular(size));
+        }
+        let mut random = Random::new(SEED);
+        for size in SIZES {
+            print_row(&format!("star {size}"), &faces::star(size, &mut random));
+        }
+    })
 }
 
+/// Times of one outline, put into space.
 pub fn print_row(name: &str, outline: &[[f64; 2]]) {
     let points: Vec<[f64; 3]> = outline.iter().map(|&[x, y]| [x, y, 0.5]).collect();
     let places: Vec<usize> = (0..points.len()).collect();
-    let cell = Cell {
-        coords: points.as_flattened().to_vec(),
-        corners: (0..points.len() as u32).collect(),
-        ends: vec![points.len() as u32],
-    };
+    let corners: Vec<u32> = (0..points.len() as u32).collect();
+    let cell = Cell::of_one_face(points.as_flattened(), &corners);
     let mut out = vec![[0; 3]; points.len() - 2];
     let mut count = [0];
     bench::print_row(
         name,
-        || {
-            black_box(ours::triangles(black_box(&cell), 0, &mut out, &mut count));
-        },
+        || ours::triangles(black_box(&cell), 0, &mut out, &mut count),
         || {
             let (points, places) = black_box((&points, &places));
-            black_box(oracle::plain::ear_clip_triangles(points, places));
+            oracle::plain::ear_clip_triangles(points, places)
         },
     );
 }

@@ -2,6 +2,7 @@
 
 use std::f64::consts::TAU;
 
+use crate::calls::print_list;
 use crate::limits::{LARGEST, MOST_CORNERS, MOST_FACES, MOST_VERTICES, clamped};
 use crate::random::Random;
 use crate::scale::Scale;
@@ -15,7 +16,7 @@ pub struct Cell {
 }
 
 impl Cell {
-    fn new(points: &[[f64; 3]], faces: &[Vec<u32>]) -> Cell {
+    pub fn new(points: &[[f64; 3]], faces: &[Vec<u32>]) -> Cell {
         let mut cell = Cell {
             coords: points.as_flattened().to_vec(),
             corners: Vec::new(),
@@ -25,8 +26,21 @@ impl Cell {
         cell
     }
 
+    /// A cell with nothing but one face.
+    pub fn of_one_face(coords: &[f64], corners: &[u32]) -> Cell {
+        Cell {
+            coords: coords.to_vec(),
+            corners: corners.to_vec(),
+            ends: vec![corners.len() as u32],
+        }
+    }
+
     pub fn points(&self) -> &[[f64; 3]] {
         self.coords.as_chunks::<3>().0
+    }
+
+    pub fn points_mut(&mut self) -> &mut [[f64; 3]] {
+        self.coords.as_chunks_mut::<3>().0
     }
 
     /// The faces as lists of their own. The ends must be sound.
@@ -52,13 +66,53 @@ impl Cell {
         }
     }
 
+    /// The same vertices with other faces, made from its own.
+    pub fn with_faces(mut self, change: impl FnOnce(&mut Vec<Vec<u32>>)) -> Cell {
+        let mut faces = self.faces();
+        change(&mut faces);
+        self.set_faces(&faces);
+        self
+    }
+
+    /// The cell with every point changed.
+    pub fn with_points(mut self, change: impl Fn([f64; 3]) -> [f64; 3]) -> Cell {
+        for point in self.points_mut() {
+            *point = change(*point);
+        }
+        self
+    }
+
+    /// The cell moved by a way, as far as the domain goes.
+    pub fn moved(self, way: [f64; 3]) -> Cell {
+        self.with_points(|point| [0, 1, 2].map(|axis| clamped(point[axis] + way[axis])))
+    }
+
+    /// The points of a face, in order.
+    pub fn outline(&self, face: &[u32]) -> Vec<[f64; 3]> {
+        face.iter()
+            .map(|&corner| self.points()[corner as usize])
+            .collect()
+    }
+
+    /// The plane of a face, by the Rust with document 01's rule for hypot.
+    pub fn plane(&self, face: &[u32]) -> [f64; 4] {
+        oracle::ruled::plane_of_face(self.points(), &as_usize(face))
+    }
+
     /// The same cell in the oracle's form. The coordinates must be in threes.
     pub fn for_the_rust(&self) -> oracle::Cell<'_> {
         oracle::Cell::flat(&self.coords, &self.corners, &self.ends)
     }
 
+    /// Prints the lists so that they can be pasted into a test.
+    pub fn print(&self) {
+        print_list("coords", "f64", &self.coords);
+        print_list("corners", "u32", &self.corners);
+        print_list("ends", "u32", &self.ends);
+    }
+
     /// The least and the greatest of each coordinate.
-    fn bounds(&self) -> [[f64; 3]; 2] {
+    pub fn bounds(&self) -> [[f64; 3]; 2] {
         let mut low = [f64::INFINITY; 3];
         let mut high = [f64::NEG_INFINITY; 3];
         for point in self.points() {
@@ -69,6 +123,11 @@ impl Cell {
         }
         [low, high]
     }
+}
+
+/// Corners as the Rust takes those of a single face.
+pub fn as_usize(corners: &[u32]) -> Vec<usize> {
+    corners.iter().map(|&corner| corner as usize).collect()
 }
 
 /// A random cell and how it was made.
@@ -118,15 +177,7 @@ const SOLIDS: [Kind; 8] = [
 /// The solids that are convex by their making, before rounding: the first seven.
 const CONVEX_SOLIDS: usize = 7;
 
-const KINDS: [Kind; 16] = [
-    Kind::Box,
-    Kind::RotatedBox,
-    Kind::Tetrahedron,
-    Kind::Wedge,
-    Kind::ConvexPrism,
-    Kind::Bipyramid,
-    Kind::Sphere,
-    Kind::ConcavePrism,
+const OTHERS: [Kind; 8] = [
     Kind::Torn,
     Kind::Backward,
     Kind::ThinFaces,
@@ -139,7 +190,7 @@ const KINDS: [Kind; 16] = [
 
 /// A random cell that passes the checks 1 to 4. Thin faces may have no corner at all.
 pub fn any(random: &mut Random) -> Made {
-    let kind = random.pick(&KINDS);
+    let kind = random.pick(&[SOLIDS, OTHERS].concat());
     made(kind, random)
 }
 
@@ -152,7 +203,7 @@ pub fn any_convex(random: &mut Random) -> Made {
 fn made(kind: Kind, random: &mut Random) -> Made {
     let scale = Scale::any(random);
     let mut cell = kind.cell(random);
-    scale.apply(cell.coords.as_chunks_mut::<3>().0, random);
+    scale.apply(cell.points_mut(), random);
     Made { cell, kind, scale }
 }
 
@@ -162,7 +213,7 @@ impl Kind {
             Kind::Box => any_box(random),
             Kind::RotatedBox => rotated(any_box(random), random),
             Kind::Tetrahedron => tetrahedron(random),
-            Kind::Wedge => prism(&outline(3, random, 1.0), random),
+            Kind::Wedge => any_wedge(random),
             Kind::ConvexPrism => {
                 let sides = random.between(3, 24);
                 prism(&outline(sides, random, 1.0), random)
@@ -192,13 +243,18 @@ fn any_solid(random: &mut Random) -> Cell {
 // Solids.
 
 /// A box of whole or any sides, its faces in the order of HEX8_FACES.
-fn any_box(random: &mut Random) -> Cell {
+pub fn any_box(random: &mut Random) -> Cell {
     let whole = random.once_in(2);
     let [x, y, z] = [(); 3].map(|()| match whole {
         true => random.between(1, 4) as f64,
         false => 0.1 + random.unit(),
     });
     box_of([x, y, z])
+}
+
+/// A prism over a triangle.
+pub fn any_wedge(random: &mut Random) -> Cell {
+    prism(&outline(3, random, 1.0), random)
 }
 
 /// The cube from 0 to 1.
@@ -327,11 +383,11 @@ fn sphere_faces(bands: u32, sectors: u32) -> Vec<Vec<u32>> {
 }
 
 /// Turns a cell about all three axes.
-fn rotated(mut cell: Cell, random: &mut Random) -> Cell {
+pub fn rotated(mut cell: Cell, random: &mut Random) -> Cell {
     for axis in 0..3 {
         let (sin, cos) = (TAU * random.unit()).sin_cos();
         let (u, v) = ((axis + 1) % 3, (axis + 2) % 3);
-        for point in cell.coords.as_chunks_mut::<3>().0 {
+        for point in cell.points_mut() {
             let (a, b) = (point[u], point[v]);
             point[u] = cos * a - sin * b;
             point[v] = sin * a + cos * b;
@@ -344,56 +400,49 @@ fn rotated(mut cell: Cell, random: &mut Random) -> Cell {
 
 /// Loses a face, or moves one corner of a face to a vertex of its own.
 fn torn(mut cell: Cell, random: &mut Random) -> Cell {
-    let mut faces = cell.faces();
-    let face = random.below(faces.len());
+    let vertices = cell.points().len() as u32;
+    let face = random.below(cell.ends.len());
     if random.once_in(2) {
-        faces.remove(face);
-    } else {
-        let corner = random.below(faces[face].len());
-        faces[face][corner] = cell.points().len() as u32;
-        cell.coords.extend(any_point(random));
+        return cell.with_faces(|faces| {
+            faces.remove(face);
+        });
     }
-    cell.set_faces(&faces);
-    cell
+    let corner = random.below(cell.faces()[face].len());
+    cell.coords.extend(any_point(random));
+    cell.with_faces(|faces| faces[face][corner] = vertices)
 }
 
 /// Runs some faces the other way, at least one.
-fn backward(mut cell: Cell, random: &mut Random) -> Cell {
-    let mut faces = cell.faces();
-    for _ in 0..random.between(1, 3) {
-        let face = random.below(faces.len());
-        faces[face].reverse();
-    }
-    cell.set_faces(&faces);
-    cell
+fn backward(cell: Cell, random: &mut Random) -> Cell {
+    cell.with_faces(|faces| {
+        for _ in 0..random.between(1, 3) {
+            let face = random.below(faces.len());
+            faces[face].reverse();
+        }
+    })
 }
 
 /// Adds faces of no, one or two corners.
-fn with_thin_faces(mut cell: Cell, random: &mut Random) -> Cell {
+fn with_thin_faces(cell: Cell, random: &mut Random) -> Cell {
     let vertices = cell.points().len();
-    let mut faces = cell.faces();
-    for _ in 0..random.between(1, 3) {
-        let corners = random.below(3);
-        let face = (0..corners)
-            .map(|_| random.below(vertices) as u32)
-            .collect();
-        faces.insert(random.below(faces.len() + 1), face);
-    }
-    cell.set_faces(&faces);
-    cell
+    cell.with_faces(|faces| {
+        for _ in 0..random.between(1, 3) {
+            let face = any_face(random.below(3), vertices, random);
+            faces.insert(random.below(faces.len() + 1), face);
+        }
+    })
 }
 
 /// Lets some corners stand twice, next to each other or apart.
-fn with_repeated_corners(mut cell: Cell, random: &mut Random) -> Cell {
-    let mut faces = cell.faces();
-    for _ in 0..random.between(1, 4) {
-        let face = random.below(faces.len());
-        let corner = random.pick(&faces[face]);
-        let place = random.below(faces[face].len() + 1);
-        faces[face].insert(place, corner);
-    }
-    cell.set_faces(&faces);
-    cell
+fn with_repeated_corners(cell: Cell, random: &mut Random) -> Cell {
+    cell.with_faces(|faces| {
+        for _ in 0..random.between(1, 4) {
+            let face = random.below(faces.len());
+            let corner = random.pick(&faces[face]);
+            let place = random.below(faces[face].len() + 1);
+            faces[face].insert(place, corner);
+        }
+    })
 }
 
 /// Moves vertices a little, so that faces are no longer in one plane.
@@ -437,13 +486,13 @@ fn full(random: &mut Random) -> Cell {
     Cell::new(&points, &faces)
 }
 
-fn any_face(corners: usize, vertices: usize, random: &mut Random) -> Vec<u32> {
+pub fn any_face(corners: usize, vertices: usize, random: &mut Random) -> Vec<u32> {
     (0..corners)
         .map(|_| random.below(vertices) as u32)
         .collect()
 }
 
-fn any_point(random: &mut Random) -> [f64; 3] {
+pub fn any_point(random: &mut Random) -> [f64; 3] {
     [(); 3].map(|()| random.signed())
 }
 
@@ -480,29 +529,25 @@ pub fn partner(cell: &Cell, random: &mut Random) -> Cell {
         4 => 1.5,
         _ => 0.5 * random.unit(),
     };
+    let mut way = [0.0; 3];
     let axis = random.below(3);
-    let mut moved = cell.clone();
-    for point in moved.coords.as_chunks_mut::<3>().0 {
-        point[axis] = clamped(point[axis] + share * (high[axis] - low[axis]));
-    }
-    moved
+    way[axis] = share * (high[axis] - low[axis]);
+    cell.clone().moved(way)
 }
 
 /// The cell brought to about the bounds of another one, so that the two overlap.
-fn fitted(mut cell: Cell, [low, high]: [[f64; 3]; 2]) -> Cell {
+pub fn fitted(cell: Cell, [low, high]: [[f64; 3]; 2]) -> Cell {
     let [own_low, own_high] = cell.bounds();
-    for point in cell.coords.as_chunks_mut::<3>().0 {
-        for axis in 0..3 {
-            let width = own_high[axis] - own_low[axis];
-            let share = if width > 0.0 {
-                (point[axis] - own_low[axis]) / width
-            } else {
-                0.5
-            };
-            point[axis] = clamped(low[axis] + share * (high[axis] - low[axis]));
-        }
-    }
-    cell
+    let fit = |axis: usize, value: f64| {
+        let width = own_high[axis] - own_low[axis];
+        let share = if width > 0.0 {
+            (value - own_low[axis]) / width
+        } else {
+            0.5
+        };
+        clamped(low[axis] + share * (high[axis] - low[axis]))
+    };
+    cell.with_points(|point| [0, 1, 2].map(|axis| fit(axis, point[axis])))
 }
 
 // Damage.
@@ -510,14 +555,14 @@ fn fitted(mut cell: Cell, [low, high]: [[f64; 3]; 2]) -> Cell {
 /// A damaged copy and the refusal that it was made for.
 pub struct Damaged {
     pub what: &'static str,
-    pub refusal: u32,
+    pub refusal: u8,
     pub cell: Cell,
 }
 
 /// A way to damage a cell, or `None` where the cell has nothing to damage so.
 type Damage = fn(Cell, &mut Random) -> Option<Cell>;
 
-const DAMAGES: [(u32, &str, Damage); 17] = [
+const DAMAGES: [(u8, &str, Damage); 17] = [
     (1, "one coordinate lost", |mut cell, _| {
         cell.coords.pop();
         Some(cell)
@@ -584,11 +629,10 @@ const DAMAGES: [(u32, &str, Damage); 17] = [
     (4, "the largest corner", |cell, random| {
         with_corner(cell, u32::MAX, random)
     }),
-    (5, "a face of no corner", |mut cell, random| {
-        let mut faces = cell.faces();
-        faces.insert(random.below(faces.len() + 1), Vec::new());
-        cell.set_faces(&faces);
-        (faces.len() <= MOST_FACES).then_some(cell)
+    (5, "a face of no corner", |cell, random| {
+        let place = random.below(cell.ends.len() + 1);
+        let cell = cell.with_faces(|faces| faces.insert(place, Vec::new()));
+        (cell.ends.len() <= MOST_FACES).then_some(cell)
     }),
 ];
 
@@ -619,6 +663,16 @@ pub fn damaged(cell: &Cell, random: &mut Random) -> Vec<Damaged> {
     copies
 }
 
+/// A copy with one damage at random. Some damages suit every sound cell, so one is found.
+pub fn any_damaged(cell: &Cell, random: &mut Random) -> Cell {
+    loop {
+        let (_, _, damage) = random.pick(&DAMAGES);
+        if let Some(copy) = damage(cell.clone(), random) {
+            return copy;
+        }
+    }
+}
+
 /// A copy with two damages at once, of which the checks must name the lower. The ends and corners
 /// are damaged first, for the other damages do not read them.
 pub fn doubly_damaged(cell: &Cell, random: &mut Random) -> Option<Damaged> {
@@ -634,4 +688,23 @@ pub fn doubly_damaged(cell: &Cell, random: &mut Random) -> Option<Damaged> {
         refusal: earlier.0,
         cell: twice,
     })
+}
+
+/// Hands on random cells, and all damaged copies of every fourth, and says how many they were.
+pub fn compare_many(count: u64, seed: u64, mut compare: impl FnMut(&Cell, &mut Random)) {
+    let mut random = Random::new(seed);
+    let mut copies = 0;
+    for _ in 0..count {
+        let cell = any(&mut random).cell;
+        compare(&cell, &mut random);
+        if random.once_in(4) {
+            let once = damaged(&cell, &mut random);
+            let twice = doubly_damaged(&cell, &mut random);
+            for copy in once.into_iter().chain(twice) {
+                compare(&copy.cell, &mut random);
+                copies += 1;
+            }
+        }
+    }
+    println!("{count} cells and {copies} damaged copies, seed {seed}");
 }

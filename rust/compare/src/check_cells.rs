@@ -7,11 +7,10 @@
 use crate::cells::{self, Cell, Kind, Made};
 use crate::random::Random;
 use crate::tally::Tally;
-use crate::{Outcome, number_or, refusals};
+use crate::{Outcome, count_and_seed, refusals};
 
 pub fn run(words: &[String]) -> Result<Outcome, String> {
-    let count = number_or(words, 0, 20_000)?;
-    let seed = number_or(words, 1, 1)?;
+    let (count, seed) = count_and_seed(words, 20_000)?;
     oracle::silence_panics();
 
     let mut random = Random::new(seed);
@@ -22,10 +21,7 @@ pub fn run(words: &[String]) -> Result<Outcome, String> {
     }
     println!("checked {} cells, seed {seed}", 2 * count);
     check.print();
-    match check.faults {
-        0 => Ok(Outcome::Equal),
-        _ => Ok(Outcome::Different),
-    }
+    Ok(Outcome::of(check.faults))
 }
 
 struct Check {
@@ -137,26 +133,25 @@ impl Check {
 }
 
 #[cfg(test)]
-mod tests {
+pub mod tests {
     use super::*;
 
-    /// Solids as they are made are convex and look outward: their signed volume is positive, and
-    /// turning their faces changes nothing.
+    /// A cell is convex and looks outward: its signed volume is positive, and turning its faces
+    /// changes nothing.
+    pub fn assert_convex(cell: &Cell) {
+        let sound = cell.for_the_rust();
+        assert!(oracle::plain::signed_volume6(sound) > 0.0, "{cell:?}");
+        assert!(oracle::plain::compute_convexity(sound), "{cell:?}");
+        assert_eq!(oracle::plain::into_ccw(sound), cell.corners, "{cell:?}");
+    }
+
     #[test]
     fn convex_solids_look_outward() {
         let mut random = Random::new(3);
         for _ in 0..2000 {
             let made = cells::any_convex(&mut random);
             if matches!(made.scale, crate::scale::Scale::AsMade) {
-                let cell = made.cell.for_the_rust();
-                assert!(oracle::plain::signed_volume6(cell) > 0.0, "{:?}", made.kind);
-                assert!(oracle::plain::compute_convexity(cell), "{:?}", made.kind);
-                assert_eq!(
-                    oracle::plain::into_ccw(cell),
-                    made.cell.corners,
-                    "{:?}",
-                    made.kind
-                );
+                assert_convex(&made.cell);
             }
         }
     }

@@ -1,10 +1,12 @@
 //! `compare cut`: random faces, cut by the port and by the Rust.
 
+use crate::calls::print_list;
+use crate::cells::as_usize;
 use crate::faces::{self, Face};
 use crate::limits::MOST_VERTICES;
 use crate::random::Random;
 use crate::tally::Tally;
-use crate::{Outcome, number_or, ours, shrink};
+use crate::{Outcome, count_and_seed, number_or, ours, shrink};
 
 /// What fills the places that a cut must leave alone. No vertex has this number.
 const UNTOUCHED: [u32; 3] = [0xDEAD_0001, 0xDEAD_0002, 0xDEAD_0003];
@@ -17,8 +19,7 @@ const BEYOND: usize = 4;
 type Cutter = fn(&[f64], &[u32], &mut [[u32; 3]]) -> Result<usize, u8>;
 
 pub fn run(words: &[String]) -> Result<Outcome, String> {
-    let count = number_or(words, 0, 100_000)?;
-    let seed = number_or(words, 1, 1)?;
+    let (count, seed) = count_and_seed(words, 100_000)?;
     let most_vertices = number_or(words, 2, MOST_VERTICES as u64)? as usize;
     if most_vertices == 0 || most_vertices > MOST_VERTICES {
         return Err(format!("a face has 1 to {MOST_VERTICES} vertices"));
@@ -26,23 +27,13 @@ pub fn run(words: &[String]) -> Result<Outcome, String> {
     let mut random = Random::new(seed);
     let mut summary = Summary::new();
     for _ in 0..count {
-        let made = any_with_a_vertex(&mut random, most_vertices);
+        let made = faces::any_with_a_vertex(&mut random, most_vertices);
         let spare = random.below(6);
         summary.add(made, spare);
     }
     println!("cut {count} faces, seed {seed}, at most {most_vertices} vertices");
     summary.print();
     Ok(summary.outcome())
-}
-
-/// A cell of no vertex is refused, so a face without one is drawn again.
-fn any_with_a_vertex(random: &mut Random, most_vertices: usize) -> faces::Made {
-    loop {
-        let made = faces::any(random, most_vertices);
-        if !made.face.coords.is_empty() {
-            return made;
-        }
-    }
 }
 
 /// What came out of the faces so far.
@@ -101,10 +92,7 @@ impl Summary {
     }
 
     fn outcome(&self) -> Outcome {
-        match self.different {
-            0 => Outcome::Equal,
-            _ => Outcome::Different,
-        }
+        Outcome::of(self.different)
     }
 }
 
@@ -138,8 +126,11 @@ fn wanted(face: &Face) -> usize {
 }
 
 fn by_the_rust(face: &Face) -> Vec<[u32; 3]> {
-    let corners: Vec<usize> = face.corners.iter().map(|&corner| corner as usize).collect();
-    oracle::plain::ear_clip_triangles(face.points(), &corners)
+    triangles_by_the_rust(face.points(), &face.corners)
+}
+
+pub fn triangles_by_the_rust(points: &[[f64; 3]], corners: &[u32]) -> Vec<[u32; 3]> {
+    oracle::plain::ear_clip_triangles(points, &as_usize(corners))
         .into_iter()
         .map(|triangle| triangle.map(|corner| corner as u32))
         .collect()
@@ -178,16 +169,8 @@ fn print_smallest(face: Face, spare: usize) {
     let apart = |face: &Face| difference(face, spare, &by_the_rust(face), ours::cut_face);
     let face = shrink::smallest(face, |face| apart(face).is_some());
     println!("the smallest face found that differs:");
-    println!(
-        "let coords: [f64; {}] = {:?};",
-        face.coords.len(),
-        face.coords
-    );
-    println!(
-        "let face: [u32; {}] = {:?};",
-        face.corners.len(),
-        face.corners
-    );
+    print_list("coords", "f64", &face.coords);
+    print_list("face", "u32", &face.corners);
     println!("// the Rust gives {:?}", by_the_rust(&face));
     println!("// {}", apart(&face).unwrap_or_default());
     println!("// for the oracle: {}", question(&face));

@@ -146,6 +146,21 @@ pub fn any(random: &mut Random, most_vertices: usize) -> Made {
     }
 }
 
+/// A cell of no vertex is refused, so a face without one is drawn again.
+pub fn any_with_a_vertex(random: &mut Random, most_vertices: usize) -> Made {
+    loop {
+        let made = any(random, most_vertices);
+        if !made.face.coords.is_empty() {
+            return made;
+        }
+    }
+}
+
+/// The points of a random outline in the plane.
+pub fn any_outline(count: usize, random: &mut Random) -> Vec<[f64; 2]> {
+    random.pick(&OUTLINES).points(count, random)
+}
+
 /// A number of corners: mostly small, for the cost of a cut may grow with its cube.
 fn any_count(random: &mut Random) -> usize {
     match random.below(20_000) {
@@ -222,7 +237,7 @@ impl Outline {
     fn points(self, count: usize, random: &mut Random) -> Vec<[f64; 2]> {
         match self {
             Outline::Regular => regular(count),
-            Outline::Convex => around(&any_angles(count, random), |_| 1.0),
+            Outline::Convex => convex(count, random),
             Outline::Star => star(count, random),
             Outline::Comb => comb(count),
             Outline::Spiral => spiral(count),
@@ -251,6 +266,11 @@ pub fn regular(count: usize) -> Vec<[f64; 2]> {
     around(&angles, |_| 1.0)
 }
 
+/// Points on a circle, counter-clockwise.
+pub fn convex(count: usize, random: &mut Random) -> Vec<[f64; 2]> {
+    around(&any_angles(count, random), |_| 1.0)
+}
+
 /// Points around the origin at different distances: an outline that is mostly concave.
 pub fn star(count: usize, random: &mut Random) -> Vec<[f64; 2]> {
     around(&any_angles(count, random), |_| 0.2 + 0.8 * random.unit())
@@ -272,7 +292,7 @@ fn any_angles(count: usize, random: &mut Random) -> Vec<f64> {
 }
 
 /// A comb of square teeth: up, over, down, over, and back along its base.
-fn comb(count: usize) -> Vec<[f64; 2]> {
+pub fn comb(count: usize) -> Vec<[f64; 2]> {
     let teeth = count.saturating_sub(2);
     let mut points: Vec<[f64; 2]> = (0..teeth)
         .map(|k| {
@@ -339,7 +359,7 @@ fn subnormal(random: &mut Random) -> f64 {
 }
 
 /// Any float of the domain: any bits, brought under the limit.
-fn any_float(random: &mut Random) -> f64 {
+pub fn any_float(random: &mut Random) -> f64 {
     let value = f64::from_bits(random.bits());
     if value.abs() <= LARGEST {
         value

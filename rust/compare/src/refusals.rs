@@ -1,14 +1,19 @@
-//! Which refusal document 01 gives to a cell: the checks 1 to 5 in their order.
+//! Which refusal document 01 gives: the checks 1 to 5 in their order. Where a call has more than one
+//! input, `or_else` puts the checks of one behind those of another.
 
 use crate::cells::Cell;
-use crate::limits::{LARGEST, MOST_CORNERS, MOST_FACES, MOST_VERTICES};
+use crate::limits::{
+    LARGEST, LONGEST_WORK, MOST_CORNERS, MOST_FACES, MOST_PLANES, MOST_POINTS, MOST_VERTICES,
+};
 
 /// The number of the first check that the cell fails. Check 5 is made only where it is asked for.
-pub fn of_cell(cell: &Cell, empty_faces_too: bool) -> Option<u32> {
-    if has_bad_size(cell) {
+pub fn of_cell(cell: &Cell, empty_faces_too: bool) -> Option<u8> {
+    let too_long = cell.ends.len() > MOST_FACES || cell.corners.len() > MOST_CORNERS;
+    let points = of_points(&cell.coords);
+    if too_long {
         Some(1)
-    } else if cell.coords.iter().any(|&value| is_bad_number(value)) {
-        Some(2)
+    } else if points.is_some() {
+        points
     } else if has_bad_ends(cell) {
         Some(3)
     } else if has_bad_corner(cell) {
@@ -20,13 +25,46 @@ pub fn of_cell(cell: &Cell, empty_faces_too: bool) -> Option<u32> {
     }
 }
 
-fn has_bad_size(cell: &Cell) -> bool {
-    let vertices = cell.coords.len() / 3;
-    !cell.coords.len().is_multiple_of(3)
-        || vertices == 0
-        || vertices > MOST_VERTICES
-        || cell.ends.len() > MOST_FACES
-        || cell.corners.len() > MOST_CORNERS
+/// The checks 1 to 4 of a cell and of a face's number.
+pub fn of_face(cell: &Cell, face: u32) -> Option<u8> {
+    of_cell(cell, false).or((face as usize >= cell.ends.len()).then_some(4))
+}
+
+/// The size of a list of planes.
+pub fn of_planes(planes: &[f64]) -> Option<u8> {
+    let bad_size = !planes.len().is_multiple_of(4) || planes.len() / 4 > MOST_PLANES;
+    bad_size.then_some(1)
+}
+
+/// The sizes of work lists, which are judged with the first input's.
+pub fn of_work(lengths: [usize; 2]) -> Option<u8> {
+    lengths
+        .iter()
+        .any(|&length| length > LONGEST_WORK)
+        .then_some(1)
+}
+
+/// A list of points in space.
+pub fn of_points(coords: &[f64]) -> Option<u8> {
+    let vertices = coords.len() / 3;
+    let bad_size = !coords.len().is_multiple_of(3) || vertices == 0 || vertices > MOST_VERTICES;
+    of_numbers(bad_size, coords)
+}
+
+/// A list of points in the plane.
+pub fn of_points2(numbers: &[f64]) -> Option<u8> {
+    let bad_size = !numbers.len().is_multiple_of(2) || numbers.len() / 2 > MOST_POINTS;
+    of_numbers(bad_size, numbers)
+}
+
+fn of_numbers(bad_size: bool, numbers: &[f64]) -> Option<u8> {
+    if bad_size {
+        Some(1)
+    } else if numbers.iter().any(|&value| is_bad_number(value)) {
+        Some(2)
+    } else {
+        None
+    }
 }
 
 /// Whether a coordinate or a query value is refused.

@@ -56,6 +56,20 @@ impl Scale {
     }
 }
 
+/// Makes a shape so small that its areas, their squares, or its own coordinates vanish.
+pub fn shrink(points: &mut [[f64; 3]], random: &mut Random) {
+    let halvings = match random.below(4) {
+        0 => random.between(230, 290),
+        1 => random.between(500, 560),
+        2 => random.between(1000, 1074),
+        _ => random.between(40, 1074),
+    };
+    // In two steps, for the last powers are no longer normal numbers.
+    let (once, twice) = (halvings / 2, halvings - halvings / 2);
+    let [once, twice] = [once, twice].map(|halvings| 0.5_f64.powi(halvings as i32));
+    each(points, |_, value| value * once * twice);
+}
+
 /// What brings the largest coordinate to the limit. For subnormal ones that factor is no longer a
 /// finite number; the largest finite one takes its place, or zeros would turn into NaN.
 fn size_to_the_limit(points: &[[f64; 3]]) -> f64 {

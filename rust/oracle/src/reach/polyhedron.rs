@@ -69,7 +69,12 @@ pub fn is_convex(cell: Cell, shape: Shape) -> bool {
 
 /// The test of convexity itself.
 pub fn compute_convexity(cell: Cell) -> bool {
-    unknown(cell).compute_convexity()
+    convexity_of(&unknown(cell))
+}
+
+/// The same for a cell in the Rust's own form, each time anew: `is_convex` keeps its answer.
+pub fn convexity_of(cell: &Polyhedron) -> bool {
+    cell.compute_convexity()
 }
 
 /// The corner list after every face is turned outward.
@@ -199,14 +204,27 @@ pub fn plane_coplanar_opposite(a: [f64; 4], b: [f64; 4], tolerance: f64) -> bool
     super::plane_coplanar_opposite(plane(a), plane(b), tolerance)
 }
 
+/// Planes in the Rust's own form, for callers that clip by them more than once.
+pub struct Planes(Vec<Plane>);
+
+impl Planes {
+    pub fn new(planes: &[[f64; 4]]) -> Self {
+        Planes(planes.iter().copied().map(plane).collect())
+    }
+
+    /// What is left of an outline inside all the planes, or `None`.
+    pub fn clip_face(&self, outline: &[[f64; 3]], eps: f64) -> Option<Vec<[f64; 3]>> {
+        super::clip_face_by_polyhedron(outline, &self.0, eps)
+    }
+}
+
 /// What is left of an outline inside all the planes, or `None`.
 pub fn clip_face_by_polyhedron(
     outline: &[[f64; 3]],
     planes: &[[f64; 4]],
     eps: f64,
 ) -> Option<Vec<[f64; 3]>> {
-    let planes: Vec<Plane> = planes.iter().copied().map(plane).collect();
-    super::clip_face_by_polyhedron(outline, &planes, eps)
+    Planes::new(planes).clip_face(outline, eps)
 }
 
 /// What is left of an outline after one cut, without the test of the whole plane before it.

@@ -1,0 +1,261 @@
+//! Calls with two work lists: how long the lists are made, and what must stand in them afterwards.
+
+use crate::calls::{Calls, Lent, same_lists};
+use crate::limits::LONGEST_WORK;
+use crate::random::Random;
+use crate::refusals;
+
+/// How often each input is asked about, each time with other lists.
+const TIMES: usize = 3;
+
+/// Numbers after the lent ones, which a call never sees.
+const BEYOND: usize = 4;
+
+/// An entry that takes two work lists.
+pub struct Entry {
+    pub name: &'static str,
+    /// Numbers of a point.
+    pub dimension: usize,
+    /// Values that it answers.
+    pub values: usize,
+}
+
+/// What an entry must do when it is not refused 1 to 5.
+pub struct Work<T> {
+    /// The most points that a work list must hold; fewer are refusal 6.
+    pub most: usize,
+    pub values: Vec<T>,
+    /// The numbers of the outline that is shown, in the first list (0) or in the second (1).
+    pub shown: Vec<f64>,
+    pub shown_in: usize,
+}
+
+/// A refusal 1 to 5 that the inputs meet, or the work.
+pub type Expected<T> = Result<Work<T>, u8>;
+
+impl Entry {
+    /// Asks some times, with lists of different lengths and now and then with too few places for the
+    /// values.
+    pub fn ask<T: Lent>(
+        &self,
+        calls: &mut Calls,
+        expected: &Expected<T>,
+        random: &mut Random,
+        mut call: impl FnMut(&mut [f64], &mut [f64], &mut [T]) -> u8,
+    ) {
+        let most = expected.as_ref().map_or(0, |work| work.most);
+        for _ in 0..TIMES {
+            let lengths = any_lengths(most * self.dimension, random);
+            let places = match random.below(16) {
+                0 => random.below(self.values),
+                _ => self.values + random.below(2),
+            };
+            self.ask_once(calls, expected, lengths, places, &mut call);
+        }
+    }
+
+    fn ask_once<T: Lent>(
+        &self,
+        calls: &mut Calls,
+        expected: &Expected<T>,
+        lengths: [usize; 2],
+        places: usize,
+        call: &mut impl FnMut(&mut [f64], &mut [f64], &mut [T]) -> u8,
+    ) {
+        let mut lists = lengths.map(|length| marked(length + BEYOND));
+        let mut out = vec![T::MARK; places];
+        let [first, second] = &mut lists;
+        let answer = call(
+            &mut first[..lengths[0]],
+            &mut second[..lengths[1]],
+            &mut out,
+        );
+
+        let end = self.end(expected, lengths, places);
+        let mut values = vec![T::MARK; places];
+        values[..end.values.len()].copy_from_slice(end.values);
+        let right = same_lists(&out, &values)
+            && (0..2).all(|list| same_lists(&lists[list], &end.stands.list(list, lengths[list])));
+        calls.held(self.name, answer, end.answer, right);
+    }
+
+    /// How a call must end with work lists of these lengths and so many places for its values.
+    fn end<'a, T>(
+        &self,
+        expected: &'a Expected<T>,
+        lengths: [usize; 2],
+        places: usize,
+    ) -> End<'a, T> {
+        let refused = |answer, stands| End {
+            answer,
+            values: &[],
+            stands,
+        };
+        if let Some(number) = refusals::of_work(lengths) {
+            return refused(number, Stands::AsBefore);
+        }
+        let room = lengths[0].min(lengths[1]) / self.dimension;
+        match expected {
+            Err(number) => refused(*number, Stands::AsBefore),
+            Ok(work) if room < work.most || places < self.values => refused(6, Stands::Zeros),
+            Ok(work) => End {
+                answer: 0,
+                values: &work.values,
+                stands: Stands::Shown(work.shown_in, &work.shown),
+            },
+        }
+    }
+}
+
+/// How a call ends: its answer, what it writes, and what then stands in the work lists.
+struct End<'a, T> {
+    answer: u8,
+    values: &'a [T],
+    stands: Stands<'a>,
+}
+
+enum Stands<'a> {
+    AsBefore,
+    Zeros,
+    /// These numbers at the front of one list, and +0 in all others.
+    Shown(usize, &'a [f64]),
+}
+
+impl Stands<'_> {
+    /// What stands in one of the lists, and after it.
+    fn list(&self, which: usize, length: usize) -> Vec<f64> {
+        let mut numbers = marked(length + BEYOND);
+        if let Stands::AsBefore = self {
+            return numbers;
+        }
+        numbers[..length].fill(0.0);
+        if let Stands::Shown(list, outline) = self
+            && *list == which
+        {
+            numbers[..outline.len()].copy_from_slice(outline);
+        }
+        numbers
+    }
+}
+
+/// A list with something to see in every place, and things that a sum or a product with 0 keeps.
+fn marked(length: usize) -> Vec<f64> {
+    let mark = |place: usize| match place % 4 {
+        1 => -0.0,
+        3 => f64::NAN,
+        _ => f64::MARK - place as f64,
+    };
+    (0..length).map(mark).collect()
+}
+
+/// Lengths of two work lists for a call that needs so many numbers in each.
+fn any_lengths(needed: usize, random: &mut Random) -> [usize; 2] {
+    let needed = needed.min(LONGEST_WORK);
+    let ample = (needed + random.below(60)).min(LONGEST_WORK);
+    let mut lengths = match random.below(4) {
+        0 => [ample; 2],
+        1 => [any_length(needed, random); 2],
+        2 => [any_length(needed, random), ample],
+        _ => [(); 2].map(|()| any_length(needed, random)),
+    };
+    if random.once_in(2) {
+        lengths.reverse();
+    }
+    lengths
+}
+
+/// Mostly a length beside the limit of room.
+fn any_length(needed: usize, random: &mut Random) -> usize {
+    match random.below(32) {
+        0 => LONGEST_WORK + random.between(1, 3),
+        1 => LONGEST_WORK,
+        2 => random.below(needed + 1),
+        3 => random.between(needed, LONGEST_WORK),
+        _ => (needed + random.below(9))
+            .saturating_sub(4)
+            .min(LONGEST_WORK),
+    }
+}
+
+#[cfg(test)]
+mod tests {
+    use super::*;
+    use crate::Outcome;
+
+    const ENTRY: Entry = Entry {
+        name: "test",
+        dimension: 3,
+        values: 1,
+    };
+
+    /// What a call of the test must do: it shows one point in the second list, and needs room for two.
+    fn expected() -> Expected<usize> {
+        Ok(Work {
+            most: 2,
+            values: vec![7],
+            shown: vec![1.0, -0.0, f64::NAN],
+            shown_in: 1,
+        })
+    }
+
+    /// Such a call, as it should be.
+    fn right(first: &mut [f64], second: &mut [f64], out: &mut [usize]) -> u8 {
+        if first.len().max(second.len()) > LONGEST_WORK {
+            return 1;
+        }
+        first.fill(0.0);
+        second.fill(0.0);
+        if first.len().min(second.len()) < 6 || out.is_empty() {
+            return 6;
+        }
+        second[..3].copy_from_slice(&[1.0, -0.0, f64::NAN]);
+        out[0] = 7;
+        0
+    }
+
+    fn is_found_right(call: impl Fn(&mut [f64], &mut [f64], &mut [usize]) -> u8) -> bool {
+        let mut random = Random::new(1);
+        let mut calls = Calls::default();
+        for _ in 0..300 {
+            ENTRY.ask(&mut calls, &expected(), &mut random, &call);
+        }
+        matches!(calls.outcome(), Outcome::Equal)
+    }
+
+    #[test]
+    fn a_right_call_is_found_right() {
+        assert!(is_found_right(right));
+    }
+
+    #[test]
+    fn a_number_over_that_is_not_cleared_is_found() {
+        assert!(!is_found_right(|first, second, out| {
+            let whole = first.len() - first.len() % 3;
+            let kept = first[whole..].to_vec();
+            let answer = right(first, second, out);
+            first[whole..].copy_from_slice(&kept);
+            answer
+        }));
+    }
+
+    #[test]
+    fn a_list_cleared_by_refusal_1_is_found() {
+        assert!(!is_found_right(|first, second, out| {
+            let answer = right(first, second, out);
+            if answer == 1 {
+                first.fill(0.0);
+            }
+            answer
+        }));
+    }
+
+    #[test]
+    fn a_refusal_for_too_much_room_is_found() {
+        assert!(!is_found_right(|first, second, out| {
+            match right(first, second, out) {
+                0 if first.len() < 7 => 6,
+                answer => answer,
+            }
+        }));
+    }
+}

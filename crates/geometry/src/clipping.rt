@@ -97,13 +97,27 @@ pub fn convex_intersection_volume(
     ensures { λ r. ⌜ MeasuredAs (overlapRefusal (now (coords .entry)) (now (corners .entry)) (now (ends .entry)) (now (coords2 .entry)) (now (corners2 .entry)) (now (ends2 .entry)) (now (first .entry)) (now (second .entry))) (sumNumber (cellsOverlap (now (coords .entry)) (now (corners .entry)) (now (ends .entry)) (now (coords2 .entry)) (now (corners2 .entry)) (now (ends2 .entry)) (now (first .entry)) (now (second .entry)))) r (now (first .entry)) (now (second .entry)) (now (first .exit)) (now (second .exit)) ⌝ }
 {
     let why = refusals::overlap_refusal(
-        coords, corners, ends, coords2, corners2, ends2, first, second,
+        coords,
+        corners,
+        ends,
+        coords2,
+        corners2,
+        ends2,
+        first,
+        second,
     );
     if why != 0 {
         return crate::Number::Refused(why);
     }
     let sum = overlap::convex_intersection_volume(
-        coords, corners, ends, coords2, corners2, ends2, first, second,
+        coords,
+        corners,
+        ends,
+        coords2,
+        corners2,
+        ends2,
+        first,
+        second,
     );
     sum_number(sum)
 }

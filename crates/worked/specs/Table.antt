@@ -56,7 +56,6 @@ abbrev pub answerOf : Question → Answer
 answerOf (cutting coords face) = gives (cutOf (verticesOf coords) face .triangles) (cutOf (verticesOf coords) face .left)
 answerOf (containing p) = contained (containsOf (verticesOf cube) p (facesOf hexCorners hexEnds))
 answerOf (containingMarked p) = contained (phedContainsOf (verticesOf cube) p hexMarked)
-
 answerOf (clipping plane eps ps) = leaves (clipFaceOf 8 eps (plane ∷ []) ps)
 answerOf (crossing plane eps a b) =
     crosses (within plane eps a) (within plane eps b) (distanceOf plane a /f (distanceOf plane a -f distanceOf plane b)) (crossPlane plane a b)
@@ -138,7 +137,7 @@ table =
     ∷ row (containing (half ∷ one64 ∷ half ∷ [])) (contained false)
     -- the square (0,0), (2,0), (2,2), (0,2), z = 0, by x ≤ 1, eps 0: one cut, so it ends in the second list
     ∷ row (clipping (upTo one64) zero64 (level zero64 zero64 ∷ level two64 zero64 ∷ level two64 two64 ∷ level zero64 two64 ∷ []))
-      (leaves (outline true (level zero64 zero64 ∷ level one64 zero64 ∷ level one64 two64 ∷ level zero64 two64 ∷ [])))
+    (leaves (outline true (level zero64 zero64 ∷ level one64 zero64 ∷ level one64 two64 ∷ level zero64 two64 ∷ [])))
     -- from (0.75,0,0) to (1.25,4,0), plane x = 0, eps 1: t = −1.5, point (0,−6,0)
     ∷ row (crossing (upTo zero64) one64 (level threeQuarters zero64) (level fiveQuarters n4)) (crosses true false m1half (level zero64 m6))
     -- the squares (0,0)–(2,2) and (1,1)–(3,3); the same subject and an empty clip list

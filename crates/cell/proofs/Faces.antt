@@ -1,15 +1,17 @@
 -- Loops over the faces of a cell that keep the previous end, and faces by their number.
 use mathlib.Core.Path.{_≡_, refl, sym, _∙_, ap}
-use mathlib.Core.Bool.{Bool, true, false, _&&_}
+use mathlib.Core.Bool.{Bool, true, false, not, _&&_, _||_}
 use mathlib.Core.List.{List, [], _∷_}
 use Prim.Native.Nat.{ℕ, zero, suc, _+_, _-_, _<_, _≤_, zero-le}
 use native.Mathlib.Numerals.{add-one}
+use native.Mathlib.Nat.{lt-of-not-le}
+use native.Mathlib.Decide.{decLe}
 use native.Mathlib.Omega.{arith}
-use lib.Dec.{T, leb, eqb, leb→le, eqb→eq}
+use lib.Dec.{T, leb, ltb, eqb, leb→le, eqb→eq}
 use lib.ListN.{length, getD, take, drop, drop-of-length-le}
 use lib.Seq.{slice, drop-cons}
 use lib.Ieee.Fits.{and-l, and-r}
-use borrow.Author.Tests.{le-leb, lt-leb}
+use borrow.Author.Tests.{le-leb, lt-leb, lt-ltb, le-ltb}
 use Rattle.places.specs.Loops.{foldList, anyOf}
 use Rattle.cell.specs.Faces.{facesFrom, facesOf, rises}
 
@@ -87,26 +89,27 @@ module _ {test : List ℕ → Bool} {c es : List ℕ} {whole : Bool} where
   unfolding anyOf
   faces-end {p} {k} l h = sym (rw (faces-none p c es k h)) ∙ l .so
 
--- ---- a loop that tests the ends: from face k and the previous end p on the answer is `whole`
-pub record Rising (es : List ℕ) (n : ℕ) (whole : Bool) (p k : ℕ) : Type 0 where
+-- ---- a loop that tests the ends: `fall` says whether one of those before face k falls, and with the ends from there and from the previous one p on it comes to `refused`
+pub record Falling (es : List ℕ) (n : ℕ) (refused : Bool) (fall : Bool) (p k : ℕ) : Type 0 where
   pub within : k ≤ length es
-  pub so : rises p (drop k es) n ≡ whole
+  pub so : fall || not (rises p (drop k es) n) ≡ refused
 
-module _ {es : List ℕ} {n : ℕ} {whole : Bool} where
-  pub rises-start : rises 0 es n ≡ whole → Rising es n whole 0 0
-  rises-start e = record { within = zero-le; so = e }
+module _ {es : List ℕ} {n : ℕ} {refused : Bool} where
+  pub falls-start : not (rises 0 es n) ≡ refused → Falling es n refused false 0 0
+  falls-start e = record { within = zero-le; so = e }
 
-  tested : {p k e : ℕ} → Rising es n whole p k → k < length es → e ≡ getD es k 0 → leb p e && rises e (drop (k + 1) es) n ≡ whole
-  tested {p} {k} {e} l h q = rw (q, add-one) (rw (drop-cons es k 0 h) at (l .so))
+  pub falls-turn : {fall fall′ : Bool} {p k e : ℕ} → Falling es n refused fall p k → k < length es → e ≡ getD es k 0 → fall′ ≡ fall || ltb e p → Falling es n refused fall′ e (k + 1)
+  falls-turn {fall} {fall′} {p} {k} {e} l h q f =
+      let all : fall || not (leb p e && rises e (drop (k + 1) es) n) ≡ refused = rw (q, add-one) (rw (drop-cons es k 0 h) at (l .so)) in
+      record { within = omega arith; so = rw f (one-more fall (rises e (drop (k + 1) es) n) (decLe p e) ∙ all) }
+    where
+      one-more : (a b : Bool) → Dec (p ≤ e) → (a || ltb e p) || not b ≡ a || not (leb p e && b)
+      one-more true b d = refl
+      one-more false b (yes g) = rw (le-ltb e p g, le-leb p e g)
+      one-more false b (no g) = rw (lt-ltb e p (lt-of-not-le g), lt-leb p e (lt-of-not-le g))
 
-  pub rises-on : {p k e : ℕ} → Rising es n whole p k → k < length es → e ≡ getD es k 0 → p ≤ e → Rising es n whole e (k + 1)
-  rises-on {p} {k} {e} l h q g = record { within = omega arith; so = rw (le-leb p e g) at (tested l h q) }
-
-  pub rises-falls : {p k e : ℕ} → Rising es n whole p k → k < length es → e ≡ getD es k 0 → e < p → false ≡ whole
-  rises-falls {p} {k} {e} l h q g = rw (lt-leb p e g) at (tested l h q)
-
-  pub rises-last : {p k : ℕ} → Rising es n whole p k → length es ≤ k → eqb p n ≡ whole
-  rises-last {p} {k} l h = rw (drop-of-length-le es h) at (l .so)
+  pub falls-end : {fall r : Bool} {p k : ℕ} → Falling es n refused fall p k → length es ≤ k → r ≡ fall || not (eqb p n) → r ≡ refused
+  falls-end l h e = e ∙ rw (drop-of-length-le es h) at (l .so)
 
 -- ---- faces by their number
 faces-length : (p : ℕ) (c es : List ℕ) → length (facesFrom p c es) ≡ length es

@@ -119,6 +119,17 @@ counted coords e =
     let some = or-none _ _ (threes .1) in
     record { threes = eqb-true _ _ (not-false _ (threes .0)); some = at-least-one _ (some .0); few = ltb-false 256 _ (some .1) }
 
+-- what passes the sizes has few vertices and faces
+pub few-points : (coords : List Float) → pointsRefused coords ≡ false → length coords / 3 < 4294967296
+few-points coords h = omega (arith, counted coords h .few, length-threes coords)
+
+pub few-of-all : (coords : List Float) (corners ends : List ℕ) → sizeRefused coords corners ends ≡ false → (length coords / 3 < 4294967296) × (length ends < 4294967296)
+unfolding sizeRefused
+few-of-all coords corners ends h =
+    let a = or-none (pointsRefused coords) (ltb 256 (length ends) || ltb 2048 (length corners)) h in
+    let b = or-none (ltb 256 (length ends)) (ltb 2048 (length corners)) (a .1) in
+    (few-points coords (a .0), omega (arith, ltb-false 256 (length ends) (b .0)))
+
 -- ---- the rows, none of which applies
 pub record Accepted (coords : List Float) (corners ends : List ℕ) (query : List Float) (asked : List ℕ) : Type 0 where
   pub size : sizeRefused coords corners ends ≡ false

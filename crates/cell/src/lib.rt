@@ -103,7 +103,8 @@ pub fn size_refused(coords: &[f64], corners: &[u32], ends: &[u32]) -> bool
 }
 
 // Whether one of the two holds.
-fn either(a: bool, b: bool) -> bool
+// Ruled out: both asked for; the second alone.
+pub fn either(a: bool, b: bool) -> bool
     ensures { λ r. ⌜ r ≡ (a || b) ⌝ }
 {
     if a { true } else { b }
@@ -123,33 +124,43 @@ pub fn number_refused(xs: &[f64]) -> bool
     refused
 }
 
-// Refusal 3: the ends fall, or the last is not the corner count.
+// The number at place i as it is stored: in 32 bits several are compared at a time, which is what the checks live by.
+// Ruled out: the number before it; its remainder by a smaller number.
+pub fn stored(cs: &[u32], i: usize) -> u32
+    requires { ⌜ i < length (now cs) ⌝ }
+    ensures { λ r. ⌜ (r ≡ getD (now (cs .entry)) i 0) × (r < 4294967296) ⌝ }
+{
+    cs[i]
+}
+
+// Refusal 3: the ends fall, or the last is not the corner count. Every end is looked at, without an exit.
 pub fn ends_refused(corners: &[u32], ends: &[u32]) -> bool
     ensures { λ r. ⌜ r ≡ endsRefused (now (corners .entry)) (now (ends .entry)) ⌝ }
 {
     let n = ends.len();
+    let mut fall = false;
     let mut start = 0;
     let mut k = 0;
     while k < n {
-        let end = places::corner(ends, k);
-        if end < start {
-            return true;
-        }
+        let end = stored(ends, k);
+        fall = either(fall, end < start);
         start = end;
         k += 1;
     }
-    start != corners.len()
+    either(fall, start as usize != corners.len())
 }
 
 // Refusal 4: one of the numbers is not below n.
 pub fn index_refused(n: usize, cs: &[u32]) -> bool
+    requires { ⌜ n < 4294967296 ⌝ }
     ensures { λ r. ⌜ r ≡ indexRefused n (now (cs .entry)) ⌝ }
 {
+    let beyond = n as u32;
     let m = cs.len();
     let mut refused = false;
     let mut i = 0;
     while i < m {
-        refused = either(refused, places::corner(cs, i) >= n);
+        refused = either(refused, stored(cs, i) >= beyond);
         i += 1;
     }
     refused

@@ -1,22 +1,25 @@
--- What a cut leaves: a stretch was laid down, and its points without the doubled ones stand at its front.
-use mathlib.Core.Path.{_≡_, ap, _∙_}
+-- What a cut leaves: a stretch was laid down, and its points without the doubled ones stand at its front. And what a plane makes of an outline, by how many of its points are out.
+use mathlib.Core.Path.{_≡_, refl, ap, _∙_}
+use mathlib.Core.Bool.{Bool, true, false}
 use mathlib.Core.List.{List, _++_}
 use Prim.Native.Nat.{ℕ, _+_, _*_, _<_, _≤_}
 use native.Mathlib.Omega.{arith}
 use lib.ListN.{length, take, drop, length-take}
-use lib.Seq.{take-append-le}
+use lib.Seq.{take-append-le, length-take-le}
 use lib.Ieee.{Float}
-use borrow.Author.Tests.{lt-ltb, le-ltb}
+use Rattle.places.specs.Loops.{pick, countOf}
+use borrow.Author.Tests.{lt-ltb, le-ltb, eq-eqb, ne-eqb}
 use Rattle.places.specs.Stored.{inThrees}
-use Rattle.places.proofs.Stored.{length-threes}
+use Rattle.places.proofs.Stored.{length-threes, threes-take, threes-front}
 use Rattle.flat.specs.Points.{Point}
-use Rattle.work.specs.declared.Step.the-variants.{Full, Gone, Made}
+use Rattle.planes.specs.declared.Plane.{Plane}
+use Rattle.work.specs.declared.Step.{Step}
+use Rattle.work.specs.declared.Step.the-variants.{Kept, Full, Gone, Made}
 use Rattle.work.specs.Work.{Filled}
-use Rattle.work.specs.Steps.{Shows, shows-full, shows-gone, shows-made}
+use Rattle.work.specs.Steps.{Shows, Moved, shows-whole, shows-full, shows-gone, shows-made}
 use Rattle.work.proofs.Filling.{filled-read, filled-over, filled-within}
 use Rattle.trim.specs.Doubled.{withoutDoubled}
-use Rattle.trim.proofs.Stored.{threes-take, threes-front}
-use Rattle.clip.specs.Clip.{cutChange}
+use Rattle.clip.specs.Clip.{beyond, cutChange, slice, planeChange}
 
 pub cut-full : {room m : ℕ} {cut before after list : List Point} → Filled cut 0 before m after → room < m → Shows room (cutChange room cut) Full list
 unfolding cutChange
@@ -41,3 +44,38 @@ module _ {room m left : ℕ} {cut before : List Point} (after front : List Float
       let w : left ≤ length (inThrees front) = omega (arith, length-take left (inThrees front), ap length (e .1), e .0) in
       let s : take left (inThrees (front ++ drop (m * 3) after)) ≡ withoutDoubled cut = rw (threes-front m front after n, take-append-le, ← part-is) (e .1) in
       rw (filled-within f h, ← count-is, le-ltb left 3 l) (shows-made {n = left} (omega (arith, length-threes front)) s)
+
+-- ---- an outline of n points in the first list or in the second
+pub stretch-some : (n : ℕ) (s : List Float) → 0 < n → n ≤ length (inThrees s) → 0 < length (inThrees (take (n * 3) s))
+stretch-some n s h g = rw (threes-take n s, length-take-le n (inThrees s) g) h
+
+pub shown-is : (second : Bool) (n : ℕ) (a b : List Float) → inThrees (take (n * 3) (pick second b a)) ≡ take n (pick second (inThrees b) (inThrees a))
+shown-is true n a b = threes-take n b
+shown-is false n a b = threes-take n a
+
+pub stretch-fits : (second : Bool) (n : ℕ) (a b : List Float) → n ≤ length (inThrees a) → n ≤ length (inThrees b) → n * 3 ≤ length (pick second b a)
+stretch-fits true n a b h g = omega (arith, length-threes b)
+stretch-fits false n a b h g = omega (arith, length-threes a)
+
+outline-length : (second : Bool) (n : ℕ) (a b : List Point) → n ≤ length a → n ≤ length b → length (take n (pick second b a)) ≡ n
+outline-length true n a b h g = length-take-le n b g
+outline-length false n a b h g = length-take-le n a h
+
+module _ (room n : ℕ) (eps : Float) (plane : Plane) (second : Bool) (a b : List Point) (h : n ≤ length a) (g : n ≤ length b) where
+  -- neither list is written to where the plane makes no cut
+  pub none-few : n < 3 → Moved room (planeChange room eps) plane n second a b Gone a b
+  unfolding planeChange
+  none-few l = record { shows = rw (outline-length second n a b h g, lt-ltb n 3 l) shows-gone; same = refl; long = refl }
+
+  module _ {out : ℕ} (l : 3 ≤ n) (e : out ≡ countOf (beyond plane eps) (take n (pick second b a))) where
+    pub none-out : out ≡ 0 → Moved room (planeChange room eps) plane n second a b Kept a b
+    unfolding planeChange
+    none-out z = record { shows = rw (outline-length second n a b h g, le-ltb n 3 l, ← e, eq-eqb out 0 z) shows-whole; same = refl; long = refl }
+
+    pub all-out : ¬ (out ≡ 0) → out ≡ n → Moved room (planeChange room eps) plane n second a b Gone a b
+    unfolding planeChange
+    all-out z w = record { shows = rw (outline-length second n a b h g, le-ltb n 3 l, ← e, ne-eqb out 0 z, eq-eqb out n w) shows-gone; same = refl; long = refl }
+
+    pub some-out : {r : Step} {a′ b′ : List Point} → ¬ (out ≡ 0) → ¬ (out ≡ n) → Moved room (slice room eps) plane n second a b r a′ b′ → Moved room (planeChange room eps) plane n second a b r a′ b′
+    unfolding planeChange
+    some-out z w m = record { shows = rw (outline-length second n a b h g, le-ltb n 3 l, ← e, ne-eqb out 0 z, ne-eqb out n w) (m .shows); same = m .same; long = m .long }

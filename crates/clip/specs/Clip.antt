@@ -23,11 +23,15 @@ cutChange room cut =
     let left = withoutDoubled cut in
     pick (ltb room (length cut)) full (pick (ltb (length left) 3) gone (made left))
 
+-- what a plane cuts an outline down to
+abbrev pub slice : ℕ → Float → Plane → List Point → Change
+slice room eps plane ps = cutChange room (trimmedBy plane eps ps)
+
 -- what a plane makes of an outline: nothing of one under 3 points; it stays whole where no point is out, and goes where all are; else it is cut
 unfoldable pub planeChange : ℕ → Float → Plane → List Point → Change
 planeChange room eps plane ps =
     let out = countOf (beyond plane eps) ps in
-    let cut = cutChange room (trimmedBy plane eps ps) in
+    let cut = slice room eps plane ps in
     pick (ltb (length ps) 3) gone (pick (eqb out 0) whole (pick (eqb out (length ps)) gone cut))
 
 -- clip_face_by_polyhedron, with room for so many points in the shorter work list

@@ -12,7 +12,7 @@ ghost use Rattle.planes.specs.Planes.{inFours};
 ghost use Rattle.work.specs.Work.{runOf, shorterOf, Ended, Settled};
 ghost use Rattle.work.specs.Steps.{Shows, Moved};
 ghost use Rattle.trim.specs.Trim.{trimmedBy};
-ghost use Rattle.clip.specs.Clip.{beyond, cutChange, planeChange, clipFaceOf};
+ghost use Rattle.clip.specs.Clip.{beyond, cutChange, slice, planeChange, clipFaceOf};
 
 // How many points of an outline are beyond a plane.
 fn count_out(src: &[f64], plane: Plane, eps: f64) -> usize
@@ -48,28 +48,28 @@ fn cut(src: &[f64], dst: &mut [f64], room: usize, plane: Plane, eps: f64) -> Ste
     Step::Made(left)
 }
 
-// What a plane makes of an outline: it is tested whole first.
-fn advance(src: &[f64], dst: &mut [f64], room: usize, plane: Plane, eps: f64) -> Step
-    requires { ⌜ (length (now src) ≤ 3072) × (length (now dst) ≤ 3072) ⌝ }
-    requires { ⌜ room ≤ length (verticesOf (now dst)) ⌝ }
-    ensures { λ r. ⌜ Shows room (planeChange room eps plane (verticesOf (now (src .entry)))) r (verticesOf (now (dst .exit))) ⌝ }
+// The outline of n points stands in the first list, or in the second, and is cut into the other.
+fn cut_from(
+    first: &mut [f64],
+    second: &mut [f64],
+    in_second: bool,
+    n: usize,
+    room: usize,
+    plane: Plane,
+    eps: f64,
+) -> Step
+    requires { ⌜ (length (now first) ≤ 3072) × (length (now second) ≤ 3072) ⌝ }
+    requires { ⌜ (0 < n) × (n ≤ room) × (room ≤ length (verticesOf (now first))) × (room ≤ length (verticesOf (now second))) ⌝ }
+    ensures { λ r. ⌜ Moved room (slice room eps) plane n in_second (verticesOf (now (first .entry))) (verticesOf (now (second .entry))) r (verticesOf (now (first .exit))) (verticesOf (now (second .exit))) ⌝ }
 {
-    let n = src.len() / 3;
-    if n < 3 {
-        return Step::Gone;
+    if in_second {
+        return cut(&second[0..n * 3], first, room, plane, eps);
     }
-    let out = count_out(src, plane, eps);
-    if out == 0 {
-        return Step::Kept;
-    }
-    if out == n {
-        return Step::Gone;
-    }
-    cut(src, dst, room, plane, eps)
+    cut(&first[0..n * 3], second, room, plane, eps)
 }
 
-// The outline of n points stands in the first list, or in the second, and goes to the other.
-fn advance_from(
+// What a plane makes of that outline: it is tested whole first. The test stands here and not beside the cut, so that a plane that cuts nothing costs no call.
+fn advance(
     first: &mut [f64],
     second: &mut [f64],
     in_second: bool,
@@ -82,10 +82,17 @@ fn advance_from(
     requires { ⌜ (n ≤ room) × (room ≤ length (verticesOf (now first))) × (room ≤ length (verticesOf (now second))) ⌝ }
     ensures { λ r. ⌜ Moved room (planeChange room eps) plane n in_second (verticesOf (now (first .entry))) (verticesOf (now (second .entry))) r (verticesOf (now (first .exit))) (verticesOf (now (second .exit))) ⌝ }
 {
-    if in_second {
-        return advance(&second[0..n * 3], first, room, plane, eps);
+    if n < 3 {
+        return Step::Gone;
     }
-    advance(&first[0..n * 3], second, room, plane, eps)
+    let out = count_out(work::shown(first, second, n * 3, in_second), plane, eps);
+    if out == 0 {
+        return Step::Kept;
+    }
+    if out == n {
+        return Step::Gone;
+    }
+    cut_from(first, second, in_second, n, room, plane, eps)
 }
 
 // The planes one after the other, from the outline of n points in the first list on.
@@ -108,7 +115,7 @@ fn run(
     while i < many {
         let plane = planes::plane_at(planes, i);
         i += 1;
-        match advance_from(first, second, in_second, n, room, plane, eps) {
+        match advance(first, second, in_second, n, room, plane, eps) {
             Step::Kept => {}
             Step::Gone => return Clipped::Nothing,
             Step::Full => return Clipped::Refused(6),
@@ -134,7 +141,7 @@ fn gather(coords: &[f64], face: &[u32], dst: &mut [f64])
     let n = face.len();
     let mut i = 0;
     while i < n {
-        trim::put(dst, i, flat::space::vertex_at(coords, face, i));
+        flat::space::put_vertex(dst, i, flat::space::vertex_at(coords, face, i));
         i += 1;
     }
 }

@@ -1,10 +1,11 @@
 -- Points. A point is the list of its coordinates: two in the plane, three in space. The definitions that Rust has for both take that number, D, as their first argument.
+use mathlib.Core.Path.{_≡_}
 use Prim.Native.Nat.{ℕ, zero, suc, _+_, _<_}
 use mathlib.Core.List.{List, [], _∷_, map}
 use mathlib.Core.Bool.{true, false}
 use lib.ListN.{length, getD}
 use lib.IntN.{pos}
-use lib.Ieee.{Float, nan, inf, binary64, ofInt}
+use lib.Ieee.{Float, nan, inf, binary64, isNan, ofInt}
 use Rattle.places.specs.Loops.{foldList}
 use Rattle.places.specs.Lists.{Each}
 use Rattle.places.specs.Stored.{inThrees}
@@ -19,7 +20,7 @@ abbrev pub at : Point → ℕ → Float
 at p k = getD p k nan
 
 -- the coordinates i, i + 1, .. of a point, `left` of them, each given by its number
-abbrev coordinatesFrom : (ℕ → Float) → ℕ → ℕ → Point
+abbrev pub coordinatesFrom : (ℕ → Float) → ℕ → ℕ → Point
 coordinatesFrom f zero i = []
 coordinatesFrom f (suc left) i = f i ∷ coordinatesFrom f left (i + 1)
 
@@ -70,6 +71,11 @@ noBox D = pointBy D (λ k. inf false) ∷ pointBy D (λ k. inf true) ∷ []
 
 unfoldable pub boundsOf : ℕ → List Point → Box
 boundsOf D ps = foldList (widenOf D) ps (noBox D)
+
+-- no coordinate of a box is a NaN
+pub record Numbers (D : ℕ) (box : Box) : Type 0 where
+  pub low : (k : ℕ) → k < D → isNan (at (getD box 0 []) k) ≡ false
+  pub high : (k : ℕ) → k < D → isNan (at (getD box 1 []) k) ≡ false
 
 -- the side of a box along the axis k
 abbrev sideOf : Box → ℕ → Float

@@ -2,7 +2,7 @@
 pub mod space;
 
 ghost use mathlib.Core.Path.{_≡_};
-ghost use Rattle.flat.specs.Points.{plusOf, minusOf, overOf, widenOf, scaleOf};
+ghost use Rattle.flat.specs.Points.{plusOf, minusOf, overOf, widenOf, Numbers, scaleOf};
 ghost use Rattle.flat.specs.Flat.{cross2Of, newellSide, axisOf, project2Of, areaSide, crossingOf};
 
 // (b - a) x (c - a).
@@ -93,22 +93,23 @@ pub fn over3(p: [f64; 3], n: f64) -> [f64; 3]
     [p[0] / n, p[1] / n, p[2] / n]
 }
 
-// A box widened so that p is in it.
+// A box widened so that p is in it. No coordinate of the box is a NaN, so that each takes one comparison.
 pub fn widen3(p: [f64; 3], b: [[f64; 3]; 2]) -> [[f64; 3]; 2]
+    requires { ⌜ Numbers 3 b ⌝ }
     ensures { λ r. ⌜ r ≡ widenOf 3 p b ⌝ }
 {
     let low = b[0];
     let high = b[1];
     [
         [
-            floats::least(low[0], p[0]),
-            floats::least(low[1], p[1]),
-            floats::least(low[2], p[2]),
+            floats::lesser(low[0], p[0]),
+            floats::lesser(low[1], p[1]),
+            floats::lesser(low[2], p[2]),
         ],
         [
-            floats::largest(high[0], p[0]),
-            floats::largest(high[1], p[1]),
-            floats::largest(high[2], p[2]),
+            floats::greater(high[0], p[0]),
+            floats::greater(high[1], p[1]),
+            floats::greater(high[2], p[2]),
         ],
     ]
 }

@@ -1,7 +1,7 @@
-// Lists of points of space, stored in threes: a vertex, the Newell sums, the vertex centroid, the bounds.
+// Lists of points of space, stored in threes: a vertex read or laid down, the Newell sums, the vertex centroid, the bounds.
 ghost use mathlib.Core.Path.{_≡_};
 ghost use Prim.Native.Nat.{ℕ, _<_, _≤_};
-ghost use lib.ListN.{length, getD};
+ghost use lib.ListN.{length, getD, set};
 ghost use mathlib.Core.List.{[]};
 ghost use lib.IntN.{pos};
 ghost use lib.Ieee.{binary64, ofInt};
@@ -19,6 +19,18 @@ pub fn vertex(coords: &[f64], v: usize) -> [f64; 3]
         places::num(coords, i + 1),
         places::num(coords, i + 2),
     ]
+}
+
+// A vertex laid down under a number.
+// Ruled out: the vertex laid down from the number's own place on; a number of the next vertex changed.
+pub fn put_vertex(coords: &mut [f64], v: usize, p: [f64; 3])
+    requires { ⌜ v < length (verticesOf (now coords)) ⌝ }
+    ensures { λ _. ⌜ verticesOf (now (coords .exit)) ≡ set (verticesOf (now (coords .entry))) v p ⌝ }
+{
+    let i = v * 3;
+    coords[i] = p[0];
+    coords[i + 1] = p[1];
+    coords[i + 2] = p[2];
 }
 
 // The vertex at place i of a face.

@@ -12,4 +12,5 @@ pub mod Special
 pub mod Grid
 pub mod Nearest
 pub mod Monotone
+pub mod Order
 pub mod Worked

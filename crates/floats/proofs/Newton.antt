@@ -1,6 +1,6 @@
--- Newton's iteration for a whole root, from above. Nothing here depends on a word's size.
-use Prim.Native.Nat.{ℕ, zero, suc, _+_, _*_, _/_, _≤_, _<_}
-use native.Mathlib.Nat.{le-of-lt, lt-of-not-le, not-suc-le-zero, zero-lt-suc, mul-le-mul-right, le-dest, lt-mul-div-succ, div-lt-iff-lt-mul}
+-- A step of Newton's iteration for a whole root is never below it. Nothing here depends on a word's size.
+use Prim.Native.Nat.{ℕ, zero, suc, _+_, _-_, _*_, _/_, _≤_, _<_}
+use native.Mathlib.Nat.{le-of-lt, lt-of-not-le, not-suc-le-zero, zero-lt-suc, mul-le-mul-right, le-dest, lt-mul-div-succ}
 use native.Mathlib.Decide.{decLe}
 use native.Mathlib.Omega.{arith}
 use mathlib.Core.Path.{subst}
@@ -37,9 +37,6 @@ pub sq-pos : (n r : ℕ) → n < r * r → 0 < r
 sq-pos n zero h = absurd (not-suc-le-zero h)
 sq-pos n (suc k) h = zero-lt-suc k
 
--- from a guess whose square is above n, it is smaller
-pub newton-below : (n r : ℕ) → n < r * r → (r + n / r) / 2 < r
-newton-below n r h = go (n / r) (div-lt-iff-lt-mul (sq-pos n r h) .1 h)
-  where
-    go : (q : ℕ) → q < r → (r + q) / 2 < r
-    go q l = omega arith
+-- a guess whose square is above n may fall by one
+pub one-less : (n r : ℕ) → n < r * r → n < (r - 1 + 1) * (r - 1 + 1)
+one-less n r h = subst (λ (x : ℕ). n < x * x) (let p = sq-pos n r h in omega arith) h

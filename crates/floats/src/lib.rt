@@ -2,7 +2,8 @@
 mod square;
 
 ghost use mathlib.Core.Path.{_≡_};
-ghost use lib.Ieee.{binary64, ofBits, toBits};
+ghost use mathlib.Core.Bool.{false};
+ghost use lib.Ieee.{binary64, isNan, ofBits, toBits};
 ghost use Rattle.floats.specs.Pick.{magnitudeOf, leastOf, largestOf};
 ghost use Rattle.floats.specs.Root.{rootOf};
 ghost use Rattle.floats.specs.Length.{lengthOf};
@@ -19,7 +20,25 @@ pub fn magnitude(x: f64) -> f64
     if b < 0x8000_0000_0000_0000 { x } else { -x }
 }
 
-// The smaller one. Where b is a NaN, no comparison with it is true, so a is answered.
+// The smaller one, where a is a number: one comparison, since none with a NaN for b is true.
+// Rules out: a minimum that answers the NaN where b is one; one that answers the later of two equal zeros.
+pub fn lesser(a: f64, b: f64) -> f64
+    requires { ⌜ isNan a ≡ false ⌝ }
+    ensures { λ r. ⌜ r ≡ leastOf a b ⌝ }
+{
+    if b < a { b } else { a }
+}
+
+// The larger one, in the same way.
+// Rules out: a maximum that answers the NaN where b is one; one that answers the smaller of two numbers.
+pub fn greater(a: f64, b: f64) -> f64
+    requires { ⌜ isNan a ≡ false ⌝ }
+    ensures { λ r. ⌜ r ≡ largestOf a b ⌝ }
+{
+    if a < b { b } else { a }
+}
+
+// The smaller one of any two.
 // Rules out: a minimum that answers NaN when one operand is; one that answers the later of two equal zeros.
 pub fn least(a: f64, b: f64) -> f64
     ensures { λ r. ⌜ r ≡ leastOf a b ⌝ }
@@ -27,7 +46,7 @@ pub fn least(a: f64, b: f64) -> f64
     if a != a {
         return b;
     }
-    if b < a { b } else { a }
+    lesser(a, b)
 }
 
 // The larger one, in the same way.
@@ -38,7 +57,7 @@ pub fn largest(a: f64, b: f64) -> f64
     if a != a {
         return b;
     }
-    if a < b { b } else { a }
+    greater(a, b)
 }
 
 // The square root, rounded to the nearest f64, a tie to the even one.

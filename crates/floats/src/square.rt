@@ -1,6 +1,6 @@
 // The square root of a positive finite f64, on its bit pattern and in whole numbers: the number is a * 4^h / 4^1074,
-// and 53 binary digits of the root of a * 4^26 are found, 27 by Newton's iteration and 26 by one division.
-ghost use Prim.Native.Nat.{_*_, _^_, _≤_, _<_};
+// and 53 binary digits of the root of a * 4^26 are found, 27 by a guess and one step of Newton's iteration, and 26 by one division.
+ghost use Prim.Native.Nat.{_+_, _*_, _^_, _≤_, _<_};
 ghost use Rattle.floats.specs.Root.{WholeRoot};
 ghost use Rattle.floats.specs.Steps.{Scaling, Extended, RootPattern};
 
@@ -16,14 +16,45 @@ pub struct Split {
     pub rest: u64,
 }
 
-// The largest r with r * r <= a, by Newton's iteration from above: it falls until it is at most the root, and never passes it.
+// c0 + c1 * y - c2 * y^2 + c3 * y^3 where y is x / 2^20, which is below 4: from c1 and c2 at most four times the next
+// coefficient is taken, so that no difference is below 0.
+fn cubic(x: u64, c0: u64, c1: u64, c2: u64, c3: u64) -> u64
+    requires { ⌜ x < 2 ^ 22 ⌝ }
+    requires { ⌜ c0 + 4 * c1 ≤ 2 ^ 28 ⌝ }
+    requires { ⌜ 4 * c2 ≤ c1 ⌝ }
+    requires { ⌜ 4 * c3 ≤ c2 ⌝ }
+    ensures { λ r. ⌜ c0 ≤ r ⌝ }
+    ensures { λ r. ⌜ r ≤ 2 ^ 28 ⌝ }
+{
+    c0 + x * (c1 - x * (c2 - x * c3 / 0x10_0000) / 0x10_0000) / 0x10_0000
+}
+
+// A guess at the root of a: a cubic in the leading digits of a, one for each half of the range. From 2^52 on it is no more
+// than 7 parts in 100,000 off.
+fn guess(a: u64) -> u64
+    requires { ⌜ a < 2 ^ 54 ⌝ }
+    ensures { λ r. ⌜ 2 ^ 24 ≤ r ⌝ }
+    ensures { λ r. ⌜ r ≤ 2 ^ 28 ⌝ }
+{
+    let x = a / 0x1_0000_0000;
+    if x < 0x20_0000 {
+        cubic(x, 24827353, 52876633, 12263986, 1673522)
+    } else {
+        cubic(x, 35111179, 37389426, 4335974, 295840)
+    }
+}
+
+// The largest r with r * r <= a. A step of Newton's iteration is never below it, and from so near a guess it is the root
+// or one more, so the loop turns at most once.
 fn whole_root(a: u64) -> u64
+    requires { ⌜ 2 ^ 52 ≤ a ⌝ }
     requires { ⌜ a < 2 ^ 54 ⌝ }
     ensures { λ r. ⌜ WholeRoot a r ⌝ }
 {
-    let mut r: u64 = (0x800_0000 + a / 0x800_0000) / 2;
+    let g = guess(a);
+    let mut r = (g + a / g) / 2;
     while a < r * r {
-        r = (r + a / r) / 2;
+        r -= 1;
     }
     r
 }

@@ -13,11 +13,10 @@ use Rattle.flat.specs.Points.{verticesOf, cornersOf}
 use Rattle.cell.specs.Faces.{facesOf}
 use Rattle.planes.specs.Planes.{inFours}
 use Rattle.work.specs.declared.Clipped.{Clipped}
+use Rattle.work.specs.declared.Measured.{Measured}
 use Rattle.work.specs.Work.{Outcome, shorterOf, answerOf, listAfter}
 use Rattle.clip.specs.Clip.{clipFaceOf}
-use Rattle.planar.specs.declared.Area.{Area}
 use Rattle.planar.specs.Planar.{clipConvexOf}
-use Rattle.overlap.specs.declared.Sum.{Sum}
 use Rattle.overlap.specs.Overlap.{intersectionOf}
 use Rattle.geometry.specs.declared.Number.{Number}
 use Rattle.geometry.specs.Answers.{listOr}
@@ -47,17 +46,12 @@ faceLeft coords corners ends k planes eps first second =
 unfoldable pub outlineLeft : List Float → List Float → List Float → List Float → Outcome
 outlineLeft subject clip first second = clipConvexOf (shorterOf (length (inPairs first)) (length (inPairs second))) (inPairs subject) (inPairs clip)
 
--- an area, or that there is no room, as a number is answered
-abbrev pub areaNumber : Area → Number
-areaNumber (Area.Is x) = Number.Is x
-areaNumber (Area.Refused k) = Number.Refused k
-
 -- convex_intersection_volume: the overlap of two cells, with the room for an outline in space
-unfoldable pub cellsOverlap : List Float → List ℕ → List ℕ → List Float → List ℕ → List ℕ → List Float → List Float → Sum
+unfoldable pub cellsOverlap : List Float → List ℕ → List ℕ → List Float → List ℕ → List ℕ → List Float → List Float → Measured
 cellsOverlap coords corners ends others otherCorners otherEnds first second =
     intersectionOf (shorterOf (length (verticesOf first)) (length (verticesOf second))) (verticesOf coords) (facesOf corners ends) (verticesOf others) (facesOf otherCorners otherEnds)
 
--- a volume, or that there is no room, as a number is answered
-abbrev pub sumNumber : Sum → Number
-sumNumber (Sum.Is x) = Number.Is x
-sumNumber (Sum.Refused k) = Number.Refused k
+-- a measure, or that there is no room, as a number is answered
+abbrev pub measuredNumber : Measured → Number
+measuredNumber (Measured.Is x) = Number.Is x
+measuredNumber (Measured.Refused k) = Number.Refused k

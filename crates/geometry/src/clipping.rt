@@ -2,7 +2,7 @@
 ghost use mathlib.Core.Path.{_≡_};
 ghost use Rattle.refusals.specs.Refusals.{clipRefusal, planarRefusal, overlapRefusal};
 ghost use Rattle.planar.specs.Planar.{areaAnswer};
-ghost use Rattle.geometry.specs.Clipping.{ClippedTo, MeasuredAs, faceLeft, outlineLeft, areaNumber, cellsOverlap, sumNumber};
+ghost use Rattle.geometry.specs.Clipping.{ClippedTo, MeasuredAs, faceLeft, outlineLeft, cellsOverlap, measuredNumber};
 
 // The face with a number clipped by planes, which are stored in fours, normal first, and are taken as they are.
 // Ruled out: only the first plane applied; a refusal 6 that leaves what it wrote in the work lists.
@@ -43,13 +43,13 @@ pub fn clip_convex(
     planar::clip_convex_shown(subject, clip, first, second)
 }
 
-// The area as a number is answered.
-fn area_number(area: planar::Area) -> crate::Number
-    ensures { λ r. ⌜ r ≡ areaNumber area ⌝ }
+// A measure as a number is answered.
+fn measured_number(a: work::Measured) -> crate::Number
+    ensures { λ r. ⌜ r ≡ measuredNumber a ⌝ }
 {
-    match area {
-        planar::Area::Is(x) => crate::Number::Is(x),
-        planar::Area::Refused(k) => crate::Number::Refused(k),
+    match a {
+        work::Measured::Is(x) => crate::Number::Is(x),
+        work::Measured::Refused(k) => crate::Number::Refused(k),
     }
 }
 
@@ -61,7 +61,7 @@ pub fn convex_intersection_area(
     first: &mut [f64],
     second: &mut [f64],
 ) -> crate::Number
-    ensures { λ r. ⌜ MeasuredAs (planarRefusal (now (subject .entry)) (now (clip .entry)) (now (first .entry)) (now (second .entry))) (areaNumber (areaAnswer (outlineLeft (now (subject .entry)) (now (clip .entry)) (now (first .entry)) (now (second .entry))))) r (now (first .entry)) (now (second .entry)) (now (first .exit)) (now (second .exit)) ⌝ }
+    ensures { λ r. ⌜ MeasuredAs (planarRefusal (now (subject .entry)) (now (clip .entry)) (now (first .entry)) (now (second .entry))) (measuredNumber (areaAnswer (outlineLeft (now (subject .entry)) (now (clip .entry)) (now (first .entry)) (now (second .entry))))) r (now (first .entry)) (now (second .entry)) (now (first .exit)) (now (second .exit)) ⌝ }
 {
     let why = refusals::planar_refusal(subject, clip, first, second);
     if why != 0 {
@@ -69,17 +69,7 @@ pub fn convex_intersection_area(
     }
     let area = planar::convex_intersection_area(subject, clip, first, second);
     work::settle(first, second, 0, false);
-    area_number(area)
-}
-
-// The volume as a number is answered.
-fn sum_number(sum: overlap::Sum) -> crate::Number
-    ensures { λ r. ⌜ r ≡ sumNumber sum ⌝ }
-{
-    match sum {
-        overlap::Sum::Is(x) => crate::Number::Is(x),
-        overlap::Sum::Refused(k) => crate::Number::Refused(k),
-    }
+    measured_number(area)
 }
 
 // The volume of the overlap of two convex cells; both work lists are then +0.
@@ -94,7 +84,7 @@ pub fn convex_intersection_volume(
     first: &mut [f64],
     second: &mut [f64],
 ) -> crate::Number
-    ensures { λ r. ⌜ MeasuredAs (overlapRefusal (now (coords .entry)) (now (corners .entry)) (now (ends .entry)) (now (coords2 .entry)) (now (corners2 .entry)) (now (ends2 .entry)) (now (first .entry)) (now (second .entry))) (sumNumber (cellsOverlap (now (coords .entry)) (now (corners .entry)) (now (ends .entry)) (now (coords2 .entry)) (now (corners2 .entry)) (now (ends2 .entry)) (now (first .entry)) (now (second .entry)))) r (now (first .entry)) (now (second .entry)) (now (first .exit)) (now (second .exit)) ⌝ }
+    ensures { λ r. ⌜ MeasuredAs (overlapRefusal (now (coords .entry)) (now (corners .entry)) (now (ends .entry)) (now (coords2 .entry)) (now (corners2 .entry)) (now (ends2 .entry)) (now (first .entry)) (now (second .entry))) (measuredNumber (cellsOverlap (now (coords .entry)) (now (corners .entry)) (now (ends .entry)) (now (coords2 .entry)) (now (corners2 .entry)) (now (ends2 .entry)) (now (first .entry)) (now (second .entry)))) r (now (first .entry)) (now (second .entry)) (now (first .exit)) (now (second .exit)) ⌝ }
 {
     let why = refusals::overlap_refusal(
         coords,
@@ -119,5 +109,5 @@ pub fn convex_intersection_volume(
         first,
         second,
     );
-    sum_number(sum)
+    measured_number(sum)
 }

@@ -5,10 +5,10 @@ ghost use lib.ListN.{length, getD, set};
 ghost use mathlib.Core.List.{[], _∷_, reverse};
 ghost use Rattle.places.specs.Lists.{swapped};
 ghost use Rattle.places.specs.Stored.{inPairs, joined};
-ghost use Rattle.flat.specs.Points.{plusOf, overOf, widenOf, centroidOf, boundsOf};
+ghost use Rattle.flat.specs.Points.{plusOf, overOf, widenOf, Numbers, centroidOf, boundsOf};
 ghost use Rattle.flat.specs.Flat.{summedAreaOf, signedAreaOf, ccwOf};
 
-// Points of the plane: s + p, p with each coordinate divided by n, and a box widened so that p is in it.
+// Points of the plane: s + p, p with each coordinate divided by n, and a box, of which no coordinate is a NaN, widened so that p is in it.
 pub fn plus2(p: [f64; 2], s: [f64; 2]) -> [f64; 2]
     ensures { λ r. ⌜ r ≡ plusOf 2 p s ⌝ }
 {
@@ -22,15 +22,16 @@ pub fn over2(p: [f64; 2], n: f64) -> [f64; 2]
 }
 
 pub fn widen2(p: [f64; 2], b: [[f64; 2]; 2]) -> [[f64; 2]; 2]
+    requires { ⌜ Numbers 2 b ⌝ }
     ensures { λ r. ⌜ r ≡ widenOf 2 p b ⌝ }
 {
     let low = b[0];
     let high = b[1];
     [
-        [floats::least(low[0], p[0]), floats::least(low[1], p[1])],
+        [floats::lesser(low[0], p[0]), floats::lesser(low[1], p[1])],
         [
-            floats::largest(high[0], p[0]),
-            floats::largest(high[1], p[1]),
+            floats::greater(high[0], p[0]),
+            floats::greater(high[1], p[1]),
         ],
     ]
 }

@@ -14,15 +14,15 @@ use Rattle.planes.specs.declared.Plane.{Plane}
 use Rattle.planes.specs.Planes.{planesOf}
 use Rattle.work.specs.Work.{Outcome, nothing, noRoom, outline}
 use Rattle.overlap.specs.declared.Measures.{Measures}
-use Rattle.overlap.specs.declared.Sum.{Sum}
+use Rattle.work.specs.declared.Measured.{Measured}
 use Rattle.overlap.specs.Tolerances.{measuresOf}
 use Rattle.overlap.specs.Ready.{Scratch}
-use Rattle.overlap.specs.Overlap.{contributionOf, patchesOf, addedTo, magnitudeOfSum, overlapOf}
+use Rattle.overlap.specs.Overlap.{contributionOf, patchesOf, addedTo, magnitudeOfMeasured, overlapOf}
 
 -- the outcomes of two cells, one after the other
-abbrev onward : Sum → (Float → Sum) → Sum
-onward (Sum.Is v) next = next v
-onward (Sum.Refused why) next = Sum.Refused why
+abbrev onward : Measured → (Float → Measured) → Measured
+onward (Measured.Is v) next = next v
+onward (Measured.Refused why) next = Measured.Refused why
 
 added-append : (ref : Point) (v : Float) (xs ys : List Outcome) → addedTo ref v (xs ++ ys) ≡ onward (addedTo ref v xs) (λ w. addedTo ref w ys)
 unfolding addedTo
@@ -32,17 +32,17 @@ added-append ref v (noRoom ∷ xs) ys = refl
 added-append ref v (outline s [] ∷ xs) ys = added-append ref v xs ys
 added-append ref v (outline s (p ∷ ps) ∷ xs) ys = added-append ref (v +f contributionOf ref (p ∷ ps)) xs ys
 
-module _ (room : ℕ) (vs : List Point) (faces : List (List ℕ)) (ws : List Point) (others : List (List ℕ)) {m : Measures} {own planes : List Plane} {s : Sum}
+module _ (room : ℕ) (vs : List Point) (faces : List (List ℕ)) (ws : List Point) (others : List (List ℕ)) {m : Measures} {own planes : List Plane} {s : Measured}
     (q : m ≡ measuresOf vs ws) (e : own ≡ planesOf vs faces) (f : planes ≡ planesOf ws others)
     (sum : s ≡ addedTo (m .reference) zero64 (patchesOf false room m vs faces planes)) where
   -- where the sum over the first cell's faces is refused
-  pub overlap-refused : {why : ℕ} → s ≡ Sum.Refused why → Sum.Refused why ≡ overlapOf room vs faces ws others
+  pub overlap-refused : {why : ℕ} → s ≡ Measured.Refused why → Measured.Refused why ≡ overlapOf room vs faces ws others
   unfolding overlapOf
   overlap-refused g =
       rw (← q, ← f, added-append (m .reference) zero64 (patchesOf false room m vs faces planes), ← sum, g)
 
   -- where it is v, and t the sum that goes on from v over the second cell's
-  pub overlap-is : {v : Float} {t r : Sum} → s ≡ Sum.Is v → t ≡ addedTo (m .reference) v (patchesOf true room m ws others own) → r ≡ magnitudeOfSum t
+  pub overlap-is : {v : Float} {t r : Measured} → s ≡ Measured.Is v → t ≡ addedTo (m .reference) v (patchesOf true room m ws others own) → r ≡ magnitudeOfMeasured t
       → r ≡ overlapOf room vs faces ws others
   unfolding overlapOf
   overlap-is g h k =

@@ -14,7 +14,7 @@ use Rattle.planes.specs.Planes.{planeOf, planesOf, sameSide, coplanarOpposite}
 use Rattle.work.specs.Work.{Outcome, nothing, noRoom, outline}
 use Rattle.clip.specs.Clip.{clipFaceOf}
 use Rattle.overlap.specs.declared.Measures.{Measures}
-use Rattle.overlap.specs.declared.Sum.{Sum}
+use Rattle.work.specs.declared.Measured.{Measured}
 use Rattle.overlap.specs.Tolerances.{boxesMiss, measuresOf}
 
 -- ---- polygon_volume_contribution
@@ -71,26 +71,26 @@ unfoldable pub patchesOf : Bool → ℕ → Measures → List Point → List (Li
 patchesOf second room m vs faces planes = map (λ face. patchOf second room m planes (cornersOf vs face)) faces
 
 -- the contributions added in order to the sum v; an outline of 0 points reads as nothing left, and where a face had no room the sum is refused 6
-unfoldable pub addedTo : Point → Float → List Outcome → Sum
-addedTo ref v [] = Sum.Is v
+unfoldable pub addedTo : Point → Float → List Outcome → Measured
+addedTo ref v [] = Measured.Is v
 addedTo ref v (nothing ∷ os) = addedTo ref v os
-addedTo ref v (noRoom ∷ os) = Sum.Refused 6
+addedTo ref v (noRoom ∷ os) = Measured.Refused 6
 addedTo ref v (outline second [] ∷ os) = addedTo ref v os
 addedTo ref v (outline second (p ∷ ps) ∷ os) = addedTo ref (v +f contributionOf ref (p ∷ ps)) os
 
 -- the magnitude of a sum
-abbrev pub magnitudeOfSum : Sum → Sum
-magnitudeOfSum (Sum.Is v) = Sum.Is (magnitudeOf v)
-magnitudeOfSum (Sum.Refused k) = Sum.Refused k
+abbrev pub magnitudeOfMeasured : Measured → Measured
+magnitudeOfMeasured (Measured.Is v) = Measured.Is (magnitudeOf v)
+magnitudeOfMeasured (Measured.Refused k) = Measured.Refused k
 
 -- convex_intersection_volume_impl: the faces of the first cell before those of the second
-unfoldable pub overlapOf : ℕ → List Point → List (List ℕ) → List Point → List (List ℕ) → Sum
+unfoldable pub overlapOf : ℕ → List Point → List (List ℕ) → List Point → List (List ℕ) → Measured
 overlapOf room vs faces ws others =
     let m = measuresOf vs ws in
-    magnitudeOfSum (addedTo (m .reference) zero64 (patchesOf false room m vs faces (planesOf ws others) ++ patchesOf true room m ws others (planesOf vs faces)))
+    magnitudeOfMeasured (addedTo (m .reference) zero64 (patchesOf false room m vs faces (planesOf ws others) ++ patchesOf true room m ws others (planesOf vs faces)))
 
 -- convex_intersection_volume: 0 where the boxes miss each other
-unfoldable pub intersectionOf : ℕ → List Point → List (List ℕ) → List Point → List (List ℕ) → Sum
+unfoldable pub intersectionOf : ℕ → List Point → List (List ℕ) → List Point → List (List ℕ) → Measured
 intersectionOf room vs faces ws others =
     let overlap = overlapOf room vs faces ws others in
-    pick (boxesMiss (boundsOf 3 vs) (boundsOf 3 ws)) (Sum.Is zero64) overlap
+    pick (boxesMiss (boundsOf 3 vs) (boundsOf 3 ws)) (Measured.Is zero64) overlap

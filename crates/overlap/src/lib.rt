@@ -1,6 +1,7 @@
 // The overlap of two cells: each cell's faces clipped by the planes of the other, and the contributions of what is left.
 use planes::Plane;
 use work::Clipped;
+use work::Measured;
 
 pub mod tolerances;
 
@@ -14,7 +15,7 @@ ghost use Rattle.cell.specs.Faces.{facesOf};
 ghost use Rattle.cell.specs.Refusals.{Sound};
 ghost use Rattle.planes.specs.Planes.{planesOf, inFours};
 ghost use Rattle.work.specs.Work.{shorterOf, Ended};
-ghost use Rattle.overlap.specs.Overlap.{contributionOf, skips, othersOf, firstPatch, secondPatch, patchOf, patchesOf, addedTo, magnitudeOfSum, overlapOf, intersectionOf};
+ghost use Rattle.overlap.specs.Overlap.{contributionOf, skips, othersOf, firstPatch, secondPatch, patchOf, patchesOf, addedTo, magnitudeOfMeasured, overlapOf, intersectionOf};
 ghost use Rattle.overlap.specs.Ready.{Ready, Scratch, Solid};
 
 // The clip's eps, the coplanar tolerance, and the point about which contributions are taken.
@@ -22,12 +23,6 @@ pub struct Measures {
     pub eps: f64,
     pub coplanar: f64,
     pub reference: [f64; 3],
-}
-
-// A sum of contributions, or the refusal.
-pub enum Sum {
-    Is(f64),
-    Refused(u8),
 }
 
 // The contribution of an outline: the triangles from its first point to each of its other sides, over 6. Each point is taken from the reference once.
@@ -177,7 +172,7 @@ fn add_faces(
     v: f64,
     first: &mut [f64],
     second: &mut [f64],
-) -> Sum
+) -> Measured
     requires { ⌜ Sound (now coords) (now corners) (now ends) ⌝ }
     requires { ⌜ inFours (now own) ≡ planesOf (verticesOf (now coords)) (facesOf (now corners) (now ends)) ⌝ }
     requires { ⌜ (length (now planes) ≤ 1024) × (length (now planes) ≤ length (now kept)) ⌝ }
@@ -200,19 +195,19 @@ fn add_faces(
                 let shown = work::shown(first, second, n * 3, in_second);
                 sum = sum + contribution(shown, reference);
             }
-            Clipped::Refused(why) => return Sum::Refused(why),
+            Clipped::Refused(why) => return Measured::Refused(why),
         }
     }
-    Sum::Is(sum)
+    Measured::Is(sum)
 }
 
 // The magnitude of a sum.
-fn magnitude_of(sum: Sum) -> Sum
-    ensures { λ r. ⌜ r ≡ magnitudeOfSum sum ⌝ }
+fn magnitude_of(sum: Measured) -> Measured
+    ensures { λ r. ⌜ r ≡ magnitudeOfMeasured sum ⌝ }
 {
     match sum {
-        Sum::Is(v) => Sum::Is(floats::magnitude(v)),
-        Sum::Refused(why) => Sum::Refused(why),
+        Measured::Is(v) => Measured::Is(floats::magnitude(v)),
+        Measured::Refused(why) => Measured::Refused(why),
     }
 }
 
@@ -229,7 +224,7 @@ fn overlap_in(
     kept: &mut [f64],
     first: &mut [f64],
     second: &mut [f64],
-) -> Sum
+) -> Measured
     requires { ⌜ Solid (now coords) (now corners) (now ends) ⌝ }
     requires { ⌜ Solid (now coords2) (now corners2) (now ends2) ⌝ }
     requires { ⌜ Scratch (now ends) (now ends2) (now own) (now planes) (now kept) ⌝ }
@@ -252,8 +247,8 @@ fn overlap_in(
         first,
         second,
     ) {
-        Sum::Refused(why) => Sum::Refused(why),
-        Sum::Is(v) => magnitude_of(add_faces(
+        Measured::Refused(why) => Measured::Refused(why),
+        Measured::Is(v) => magnitude_of(add_faces(
             true,
             coords2,
             corners2,
@@ -286,7 +281,7 @@ fn overlap(
     ends2: &[u32],
     first: &mut [f64],
     second: &mut [f64],
-) -> Sum
+) -> Measured
     requires { ⌜ Solid (now coords) (now corners) (now ends) ⌝ }
     requires { ⌜ Solid (now coords2) (now corners2) (now ends2) ⌝ }
     requires { ⌜ (length (now first) ≤ 3072) × (length (now second) ≤ 3072) ⌝ }
@@ -340,14 +335,14 @@ fn intersection(
     ends2: &[u32],
     first: &mut [f64],
     second: &mut [f64],
-) -> Sum
+) -> Measured
     requires { ⌜ Solid (now coords) (now corners) (now ends) ⌝ }
     requires { ⌜ Solid (now coords2) (now corners2) (now ends2) ⌝ }
     requires { ⌜ (length (now first) ≤ 3072) × (length (now second) ≤ 3072) ⌝ }
     ensures { λ r. ⌜ r ≡ intersectionOf (shorterOf (length (verticesOf (now (first .entry)))) (length (verticesOf (now (second .entry))))) (verticesOf (now (coords .entry))) (facesOf (now (corners .entry)) (now (ends .entry))) (verticesOf (now (coords2 .entry))) (facesOf (now (corners2 .entry)) (now (ends2 .entry))) ⌝ }
 {
     if tolerances::boxes_miss(flat::space::bounds(coords), flat::space::bounds(coords2)) {
-        return Sum::Is(0.0);
+        return Measured::Is(0.0);
     }
     overlap(
         coords,
@@ -372,7 +367,7 @@ pub fn convex_intersection_volume(
     ends2: &[u32],
     first: &mut [f64],
     second: &mut [f64],
-) -> Sum
+) -> Measured
     requires { ⌜ Solid (now coords) (now corners) (now ends) ⌝ }
     requires { ⌜ Solid (now coords2) (now corners2) (now ends2) ⌝ }
     requires { ⌜ (length (now first) ≤ 3072) × (length (now second) ≤ 3072) ⌝ }

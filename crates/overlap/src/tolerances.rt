@@ -8,7 +8,7 @@ ghost use lib.ListN.{length};
 ghost use lib.Ieee.{lt};
 ghost use Rattle.places.specs.Loops.{foldList};
 ghost use Rattle.flat.specs.Points.{verticesOf, plusOf, centroidOf};
-ghost use Rattle.overlap.specs.Tolerances.{boxesMiss, farther, measuresOf};
+ghost use Rattle.overlap.specs.Tolerances.{boxesMiss, fartherSquare, measuresOf};
 
 // Whether of two boxes one ends before the other starts, along an axis.
 // Ruled out: `<=`, which lets boxes that touch miss each other; asking only whether the first ends before the second.
@@ -63,28 +63,29 @@ fn centroid_of_both(a: &[f64], b: &[f64]) -> [f64; 3]
     flat::over3(s, flat::space::count(n as u16))
 }
 
-// The larger of m and the largest distance of a list's points from c.
+// The larger of m and the largest square of a distance of a list's points from c.
 fn farthest(coords: &[f64], c: [f64; 3], m: f64) -> f64
-    ensures { λ r. ⌜ r ≡ foldList (farther c) (verticesOf (now (coords .entry))) m ⌝ }
+    ensures { λ r. ⌜ r ≡ foldList (fartherSquare c) (verticesOf (now (coords .entry))) m ⌝ }
 {
     let n = coords.len() / 3;
     let mut far = m;
     let mut i = 0;
     while i < n {
-        far = floats::largest(far, trim::doubled::dist3(flat::space::vertex(coords, i), c));
+        let s = trim::doubled::square3(flat::space::vertex(coords, i), c);
+        far = floats::largest(far, s);
         i += 1;
     }
     far
 }
 
-// The tolerances of an overlap and its reference point. The constant is 2^-46, 64 times the distance from 1 to the next f64.
+// The tolerances of an overlap and its reference point. The root grows with the number, so the largest distance is the root of the largest square. The constant is 2^-46, 64 times the distance from 1 to the next f64.
 // Ruled out: a radial length of the first cell's vertices alone; the centroid of both cells for the reference point.
 pub fn measures(a: &[f64], b: &[f64]) -> Measures
     requires { ⌜ (length (now a) ≤ 768) × (length (now b) ≤ 768) ⌝ }
     ensures { λ r. ⌜ r ≡ measuresOf (verticesOf (now (a .entry))) (verticesOf (now (b .entry))) ⌝ }
 {
     let c = centroid_of_both(a, b);
-    let radial = farthest(b, c, farthest(a, c, 0.0));
+    let radial = floats::root(farthest(b, c, farthest(a, c, 0.0)));
     let reference = flat::space::vertex_centroid(a);
     Measures {
         eps: 1.4210854715202004e-14 * flat::scale(flat::space::bounds(a)),

@@ -1,9 +1,9 @@
--- From the stored numbers to the points and back: how many points there are, the numbers of the point at a place, and what storing a point's numbers does.
-use mathlib.Core.Path.{_≡_, refl, ap}
-use mathlib.Core.List.{List, [], _∷_}
+-- From the stored numbers to the points and back: how many points there are, the numbers of the point at a place, what storing a point's numbers does, the first points, and a list whose front was lent and has come back.
+use mathlib.Core.Path.{_≡_, refl, ap, _∙_}
+use mathlib.Core.List.{List, [], _∷_, _++_}
 use Prim.Native.Nat.{ℕ, zero, suc, _+_, _*_, _/_, _%_, _<_}
 use native.Mathlib.Omega.{arith}
-use lib.ListN.{length, getD, set}
+use lib.ListN.{length, getD, set, take, drop}
 use Rattle.places.specs.Stored.{inThrees, inPairs, joined}
 
 module _ {A : Type 0} where
@@ -71,3 +71,79 @@ module _ {A : Type 0} where
   -- a point of the plane is its two numbers
   pub pairs-whole : (l : List A) (i : ℕ) (d : A) → i < length (inPairs l) → getD (getD (inPairs l) i []) 0 d ∷ getD (getD (inPairs l) i []) 1 d ∷ [] ≡ getD (inPairs l) i []
   pairs-whole l i d h = rw (pairs-at l i d (omega (arith, length-pairs l)))
+
+-- ---- a point laid down, the first points, the front of a list
+three-more : (n : ℕ) → suc n * 3 ≡ suc (suc (suc (n * 3)))
+three-more n = omega arith
+
+two-more : (n : ℕ) → suc n * 2 ≡ suc (suc (n * 2))
+two-more n = omega arith
+
+module _ {A : Type 0} where
+  -- a list of two elements, or of three, is what it has at its places
+  pub two-of : (p : List A) (d : A) → length p ≡ 2 → getD p 0 d ∷ getD p 1 d ∷ [] ≡ p
+  two-of [] d h = absurd (omega arith)
+  two-of (a ∷ []) d h = absurd (omega arith)
+  two-of (a ∷ b ∷ []) d h = refl
+  two-of (a ∷ b ∷ c ∷ l) d h = absurd (omega arith)
+
+  pub three-of : (p : List A) (d : A) → length p ≡ 3 → getD p 0 d ∷ getD p 1 d ∷ getD p 2 d ∷ [] ≡ p
+  three-of [] d h = absurd (omega arith)
+  three-of (a ∷ l) d h = ap (λ (r : List A). a ∷ r) (two-of l d (omega arith))
+
+  -- storing a point's three numbers from 3 i on is storing the point at i
+  threes-put : (l : List A) (i : ℕ) (a b c : A) → i < length l / 3
+      → inThrees (set (set (set l (i * 3) a) (i * 3 + 1) b) (i * 3 + 2) c) ≡ set (inThrees l) i (a ∷ b ∷ c ∷ [])
+  unfolding inThrees
+  threes-put [] i a b c h = absurd (omega arith)
+  threes-put (x ∷ []) i a b c h = absurd (omega arith)
+  threes-put (x ∷ y ∷ []) i a b c h = absurd (omega arith)
+  threes-put (x ∷ y ∷ z ∷ l) zero a b c h = refl
+  threes-put (x ∷ y ∷ z ∷ l) (suc i) a b c h =
+      let e1 : suc (suc (suc (i * 3))) + 1 ≡ suc (suc (suc (i * 3 + 1))) = omega arith in
+      let e2 : suc (suc (suc (i * 3))) + 2 ≡ suc (suc (suc (i * 3 + 2))) = omega arith in
+      rw (three-more i, e1, e2) (ap (λ (r : List (List A)). (x ∷ y ∷ z ∷ []) ∷ r) (threes-put l i a b c (omega arith)))
+
+  pub threes-set : (l : List A) (i : ℕ) (p : List A) (d : A) → length p ≡ 3 → i < length l / 3
+      → inThrees (set (set (set l (i * 3) (getD p 0 d)) (i * 3 + 1) (getD p 1 d)) (i * 3 + 2) (getD p 2 d)) ≡ set (inThrees l) i p
+  threes-set l i p d g h = threes-put l i (getD p 0 d) (getD p 1 d) (getD p 2 d) h ∙ ap (set (inThrees l) i) (three-of p d g)
+
+  -- a point of the plane from its two numbers
+  pub pairs-put : (l : List A) (i : ℕ) (p : List A) (d : A) → length p ≡ 2 → i < length l / 2
+      → inPairs (set (set l (i * 2) (getD p 0 d)) (i * 2 + 1) (getD p 1 d)) ≡ set (inPairs l) i p
+  pairs-put l i p d g h = pairs-set l i (getD p 0 d) (getD p 1 d) h ∙ ap (set (inPairs l) i) (two-of p d g)
+
+  -- ---- the first n points have the first 3 n numbers, or 2 n, and the others the rest
+  pub threes-take : (n : ℕ) (l : List A) → inThrees (take (n * 3) l) ≡ take n (inThrees l)
+  unfolding inThrees
+  threes-take zero l = refl
+  threes-take (suc n) [] = rw (three-more n)
+  threes-take (suc n) (a ∷ []) = rw (three-more n)
+  threes-take (suc n) (a ∷ b ∷ []) = rw (three-more n)
+  threes-take (suc n) (a ∷ b ∷ c ∷ l) = rw (three-more n, threes-take n l)
+
+  pub threes-drop : (n : ℕ) (l : List A) → inThrees (drop (n * 3) l) ≡ drop n (inThrees l)
+  unfolding inThrees
+  threes-drop zero l = refl
+  threes-drop (suc n) [] = rw (three-more n)
+  threes-drop (suc n) (a ∷ []) = rw (three-more n)
+  threes-drop (suc n) (a ∷ b ∷ []) = rw (three-more n)
+  threes-drop (suc n) (a ∷ b ∷ c ∷ l) = rw (three-more n, threes-drop n l)
+
+  pub pairs-take : (n : ℕ) (l : List A) → inPairs (take (n * 2) l) ≡ take n (inPairs l)
+  unfolding inPairs
+  pairs-take zero l = refl
+  pairs-take (suc n) [] = rw (two-more n)
+  pairs-take (suc n) (a ∷ []) = rw (two-more n)
+  pairs-take (suc n) (a ∷ b ∷ l) = rw (two-more n, pairs-take n l)
+
+  -- ---- the first 3 n numbers were lent, and came back: so did the first n points
+  threes-append : (xs ys : List A) → length xs % 3 ≡ 0 → inThrees (xs ++ ys) ≡ inThrees xs ++ inThrees ys
+  unfolding inThrees
+  threes-append [] ys h = refl
+  threes-append (a ∷ []) ys h = absurd (omega arith)
+  threes-append (a ∷ b ∷ []) ys h = absurd (omega arith)
+  threes-append (a ∷ b ∷ c ∷ xs) ys h = rw (threes-append xs ys (omega arith))
+
+  pub threes-front : (n : ℕ) (front l : List A) → length front ≡ n * 3 → inThrees (front ++ drop (n * 3) l) ≡ inThrees front ++ drop n (inThrees l)
+  threes-front n front l h = rw (threes-append front (drop (n * 3) l) (omega arith), threes-drop n l)

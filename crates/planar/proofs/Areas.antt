@@ -17,8 +17,8 @@ use Rattle.work.specs.declared.Clipped.the-variants.{Nothing, Outline}
 use Rattle.work.specs.declared.Clipped.the-variants as clipped
 use Rattle.work.specs.Work.{Outcome, nothing, noRoom, outline, outlineOf, Ended}
 use Rattle.work.proofs.Endings.{reads-pairs, nothing-left, refused-is, outline-left}
-use Rattle.trim.proofs.Stored.{pairs-take}
-use Rattle.planar.specs.declared.Area.the-variants.{Is, Refused}
+use Rattle.places.proofs.Stored.{pairs-take}
+use Rattle.work.specs.declared.Measured.the-variants.{Is, Refused}
 use Rattle.planar.specs.Planar.{intersectionAreaOf, areaAnswer}
 
 -- nothing has the area +0

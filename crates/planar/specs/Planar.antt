@@ -11,8 +11,8 @@ use Rattle.flat.specs.Points.{Point}
 use Rattle.flat.specs.Flat.{signedAreaOf}
 use Rattle.work.specs.Work.{Change, gone, full, made, Outcome, nothing, noRoom, outline, clippedOf, outlineOf}
 use Rattle.trim.specs.Trim.{trimmedAt}
-use Rattle.planar.specs.declared.Area.{Area}
-use Rattle.planar.specs.declared.Area.the-variants.{Is, Refused}
+use Rattle.work.specs.declared.Measured.{Measured}
+use Rattle.work.specs.declared.Measured.the-variants.{Is, Refused}
 
 -- what an edge makes of an outline: before each edge one under 3 points is emptied; every edge is a cut
 unfoldable pub edgeChange : ℕ → Point × Point → List Point → Change
@@ -29,7 +29,7 @@ unfoldable pub intersectionAreaOf : Outcome → Float
 intersectionAreaOf left = magnitudeOf (signedAreaOf (outlineOf left))
 
 -- the paper's answer: the area, also of nothing; or 6 where there is no room
-abbrev pub areaAnswer : Outcome → Area
+abbrev pub areaAnswer : Outcome → Measured
 areaAnswer nothing = Is (intersectionAreaOf nothing)
 areaAnswer noRoom = Refused 6
 areaAnswer (outline second ps) = Is (intersectionAreaOf (outline second ps))

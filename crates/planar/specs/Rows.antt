@@ -11,7 +11,7 @@ use Rattle.flat.specs.Points.{Point}
 use Rattle.flat.specs.Flat.{cross2Of, areaSide, summedAreaOf, signedAreaOf, crossingOf}
 use Rattle.work.specs.Work.{runOf, clippedOf, outline}
 use Rattle.trim.specs.Trim.{trimFrom, trimmedAt}
-use Rattle.planar.specs.declared.Area.the-variants.{Is}
+use Rattle.work.specs.declared.Measured.the-variants.{Is}
 use Rattle.planar.specs.Planar.{edgeChange, clipConvexOf, intersectionAreaOf, areaAnswer}
 
 -- a whole number as a float

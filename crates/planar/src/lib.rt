@@ -1,5 +1,6 @@
 // An outline of the plane clipped by the edges of another, from one work list into the other and back; and the area of what is left.
 use work::Clipped;
+use work::Measured;
 use work::Step;
 ghost use mathlib.Core.Path.{_≡_};
 ghost use mathlib.Core.Bool.{false};
@@ -10,12 +11,6 @@ ghost use Rattle.places.specs.Ring.{sides};
 ghost use Rattle.work.specs.Work.{runOf, shorterOf, Ended, Settled};
 ghost use Rattle.work.specs.Steps.{Shows, Moved};
 ghost use Rattle.planar.specs.Planar.{edgeChange, clipConvexOf, areaAnswer};
-
-// The area of what is left, or the call is refused.
-pub enum Area {
-    Is(f64),
-    Refused(u8),
-}
 
 // What the edge from a to b makes of an outline.
 fn advance(src: &[f64], dst: &mut [f64], room: usize, a: [f64; 2], b: [f64; 2]) -> Step
@@ -137,17 +132,17 @@ pub fn convex_intersection_area(
     clip: &[f64],
     first: &mut [f64],
     second: &mut [f64],
-) -> Area
+) -> Measured
     requires { ⌜ (length (now subject) ≤ 1024) × (length (now clip) ≤ 1024) ⌝ }
     requires { ⌜ (length (now first) ≤ 3072) × (length (now second) ≤ 3072) ⌝ }
     ensures { λ r. ⌜ r ≡ areaAnswer (clipConvexOf (shorterOf (length (inPairs (now (first .entry)))) (length (inPairs (now (second .entry))))) (inPairs (now (subject .entry))) (inPairs (now (clip .entry)))) ⌝ }
 {
     match clip_convex(subject, clip, first, second) {
-        Clipped::Nothing => Area::Is(0.0),
+        Clipped::Nothing => Measured::Is(0.0),
         Clipped::Outline(n, in_second) => {
             let ps = work::shown(first, second, n * 2, in_second);
-            Area::Is(floats::magnitude(outline::signed_area2(ps)))
+            Measured::Is(floats::magnitude(outline::signed_area2(ps)))
         }
-        Clipped::Refused(k) => Area::Refused(k),
+        Clipped::Refused(k) => Measured::Refused(k),
     }
 }

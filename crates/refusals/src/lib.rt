@@ -104,22 +104,23 @@ pub fn room_refused(n: usize, room: usize) -> bool
     if n < 2 { false } else { room < n - 2 }
 }
 
-// Whether an entry that is not the mark is not below n.
+// Whether an entry that is not the mark is not below n. Every entry is looked at, without an exit.
 fn strays_in(n: usize, cs: &[u32]) -> bool
+    requires { ⌜ n < 4294967296 ⌝ }
     ensures { λ r. ⌜ r ≡ anyOf (strays n) (now (cs .entry)) ⌝ }
 {
+    let beyond = n as u32;
     let m = cs.len();
+    let mut any = false;
     let mut i = 0;
     while i < m {
-        if strays(n, places::corner(cs, i)) {
-            return true;
-        }
+        any = cell::either(any, strays(beyond, cell::stored(cs, i)));
         i += 1;
     }
-    false
+    any
 }
 
-fn strays(n: usize, c: usize) -> bool
+fn strays(n: u32, c: u32) -> bool
     ensures { λ r. ⌜ r ≡ strays n c ⌝ }
 {
     if c == 4294967295 { false } else { n <= c }

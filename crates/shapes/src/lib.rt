@@ -124,17 +124,6 @@ pub fn hex_volume(p: [[f64; 3]; 8]) -> f64
     volume_by(&p, &HEX8_TET)
 }
 
-// The three numbers of a point, stored as the point i.
-fn lay_point(coords: &mut [f64], i: usize, p: [f64; 3])
-    requires { ⌜ i < length (verticesOf (now coords)) ⌝ }
-    ensures points { λ _. ⌜ verticesOf (now (coords .exit)) ≡ set (verticesOf (now (coords .entry))) i p ⌝ }
-{
-    let k = i * 3;
-    coords[k] = p[0];
-    coords[k + 1] = p[1];
-    coords[k + 2] = p[2];
-}
-
 // Points as the ray test reads them: the numbers of one after those of another.
 fn lay(coords: &mut [f64], ps: &[[f64; 3]])
     requires { ⌜ length (now coords) ≡ length (now ps) * 3 ⌝ }
@@ -144,7 +133,7 @@ fn lay(coords: &mut [f64], ps: &[[f64; 3]])
     let mut i = 0;
     while i < n {
         let p = ps[i];
-        lay_point(coords, i, p);
+        flat::space::put_vertex(coords, i, p);
         i += 1;
     }
 }

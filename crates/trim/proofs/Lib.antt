@@ -1,5 +1,5 @@
-pub mod Stored
 pub mod Trimming
 pub mod Spacing
 pub mod Computed
 pub mod Outlines
+pub mod Surely

@@ -82,12 +82,12 @@ pub opened-short : (eps : Float) (ps : List Point) → length ps < 2 → length 
 unfolding openedOf
 opened-short eps ps h = rw (le-ltb 1 (length ps) (omega arith))
 
-pub opened-long : (eps : Float) (ps : List Point) {a b : Point} {d : Float} → 2 ≤ length ps → a ≡ getD ps 0 [] → b ≡ getD ps (length ps - 1) [] → d ≡ dist3Of a b
-    → pick (le d eps) (length ps - 1) (length ps) ≡ length (openedOf eps ps)
+pub opened-long : (eps : Float) (ps : List Point) {a b : Point} {near : Bool} → 2 ≤ length ps → a ≡ getD ps 0 [] → b ≡ getD ps (length ps - 1) [] → near ≡ le (dist3Of a b) eps
+    → pick near (length ps - 1) (length ps) ≡ length (openedOf eps ps)
 unfolding openedOf
-opened-long eps ps {d = d} h e f g =
-    let far : dist3Of (getD ps 0 []) (getD ps (length ps - 1) []) ≡ d = sym (rw (← e, ← f) g) in
-    rw (lt-ltb 1 (length ps) (omega arith), far) (go (le d eps))
+opened-long eps ps {near = near} h e f g =
+    let is : le (dist3Of (getD ps 0 []) (getD ps (length ps - 1) [])) eps ≡ near = sym (rw (← e, ← f) g) in
+    rw (lt-ltb 1 (length ps) (omega arith), is) (go near)
   where
     go : (b : Bool) → pick b (length ps - 1) (length ps) ≡ length (pick b (take (length ps - 1) ps) ps)
     go true = sym (length-take-le (length ps - 1) ps (omega arith))

@@ -1,6 +1,7 @@
 -- remove_consecutive_duplicates: doubled points are dropped.
 use Prim.Native.Nat.{_-_}
-use mathlib.Core.Bool.{_&&_}
+use mathlib.Core.Path.{_≡_}
+use mathlib.Core.Bool.{true, _&&_}
 use mathlib.Core.List.{List, [], _∷_}
 use lib.ListN.{length, getD, take}
 use lib.Dec.{ltb}
@@ -11,13 +12,21 @@ use Rattle.floats.specs.Pick.{magnitudeOf, largestOf}
 use Rattle.floats.specs.Root.{rootOf}
 use Rattle.flat.specs.Points.{Point, at}
 
--- dist3: how far two points are apart
-unfoldable pub dist3Of : Point → Point → Float
-dist3Of a b =
+-- the sum of the squares of what two points differ by
+unfoldable pub squareOf : Point → Point → Float
+squareOf a b =
     let x = at a 0 -f at b 0 in
     let y = at a 1 -f at b 1 in
     let z = at a 2 -f at b 2 in
-    rootOf binary64 (x *f x +f y *f y +f z *f z)
+    x *f x +f y *f y +f z *f z
+
+-- dist3: how far two points are apart
+unfoldable pub dist3Of : Point → Point → Float
+dist3Of a b = rootOf binary64 (squareOf a b)
+
+-- two points of which that sum is at least `sure` are farther apart than eps
+pub record Sure (eps sure : Float) : Type 0 where
+  pub far : (a b : Point) → le sure (squareOf a b) ≡ true → lt eps (dist3Of a b) ≡ true
 
 -- 64 times EPSILON, the distance from 1 to the next f64: 2 ^ −46
 abbrev pub epsilon64 : Float

@@ -7,7 +7,7 @@ pub mod edge;
 ghost use mathlib.Core.Path.{_≡_};
 ghost use mathlib.Core.List.{[], _∷_};
 ghost use Prim.Native.Nat.{_+_, _*_, _<_, _≤_};
-ghost use lib.ListN.{length, set};
+ghost use lib.ListN.{length};
 ghost use lib.Ieee.{le};
 ghost use Rattle.flat.specs.Points.{verticesOf};
 ghost use Rattle.trim.specs.Trim.{sideLeaves, segmentPlaneOf, trimmedBy};
@@ -26,18 +26,6 @@ pub fn segment_plane_intersection(a: [f64; 3], b: [f64; 3], da: f64, db: f64) ->
     ]
 }
 
-// A point laid down at place k.
-// Ruled out: the point laid down from number k on; a number of the next point changed.
-pub fn put(s: &mut [f64], k: usize, p: [f64; 3])
-    requires { ⌜ k < length (verticesOf (now s)) ⌝ }
-    ensures { λ _. ⌜ verticesOf (now (s .exit)) ≡ set (verticesOf (now (s .entry))) k p ⌝ }
-{
-    let i = k * 3;
-    s[i] = p[0];
-    s[i + 1] = p[1];
-    s[i + 2] = p[2];
-}
-
 // A point laid down at place m where there is one. The count goes on past the end of the list.
 // Ruled out: a count that stops where the list ends; a point that has no place laid over the last one.
 pub fn push(s: &mut [f64], m: usize, p: [f64; 3]) -> usize
@@ -45,7 +33,7 @@ pub fn push(s: &mut [f64], m: usize, p: [f64; 3]) -> usize
     ensures { λ r. ⌜ Filled (p ∷ []) m (verticesOf (now (s .entry))) r (verticesOf (now (s .exit))) ⌝ }
 {
     if m < s.len() / 3 {
-        put(s, m, p);
+        flat::space::put_vertex(s, m, p);
         return m + 1;
     }
     m + 1

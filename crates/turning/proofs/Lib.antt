@@ -1,4 +1,5 @@
 pub mod Parting
+pub mod Seeing
 pub mod Turning
 pub mod Turned
 pub mod Computed

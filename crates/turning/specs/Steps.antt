@@ -1,5 +1,5 @@
 -- What the steps of the convexity test promise each other; no promise of a public function speaks of these.
-use mathlib.Core.Bool.{true}
+use mathlib.Core.Bool.{Bool, true, _&&_, Bool·beq}
 use lib.Ieee.{Float}
 use Rattle.places.specs.Loops.{pick}
 use Rattle.flat.specs.Points.{Point}
@@ -13,3 +13,7 @@ seeOf n d eps p seen =
       above = pick (above n d eps p) true (seen .above);
       below = pick (below n d eps p) true (seen .below);
     }
+
+-- whether the same was seen
+abbrev pub sameSeen : Seen → Seen → Bool
+sameSeen a b = Bool·beq (a .above) (b .above) && Bool·beq (a .below) (b .below)

@@ -11,7 +11,7 @@ ghost use Rattle.cell.specs.Faces.{facesOf};
 ghost use Rattle.cell.specs.Refusals.{emptyRefused, Sound};
 ghost use Rattle.turning.specs.Convexity.{toleranceOf, hasCorner, othersOf, planeParts, faceParts, computeConvexityOf, isConvexOf};
 ghost use Rattle.turning.specs.Turning.{awayOf, outwardOf, turnedOf};
-ghost use Rattle.turning.specs.Steps.{seeOf};
+ghost use Rattle.turning.specs.Steps.{seeOf, sameSeen};
 
 // What was seen of the vertices against a plane: one above it, one below it.
 struct Seen {
@@ -64,15 +64,30 @@ fn see(n: [f64; 3], d: f64, eps: f64, p: [f64; 3], seen: Seen) -> Seen
     seen
 }
 
-// The same for the vertex v; a corner of the face is passed over.
+// Whether the same was seen.
+fn same(a: Seen, b: Seen) -> bool
+    ensures { λ r. ⌜ r ≡ sameSeen a b ⌝ }
+{
+    if a.above == b.above {
+        a.below == b.below
+    } else {
+        false
+    }
+}
+
+// The same for the vertex v; a corner of the face is passed over. The face is searched only where something new was seen, which is seldom.
 fn look(coords: &[f64], face: &[u32], v: usize, n: [f64; 3], d: f64, eps: f64, seen: Seen) -> Seen
     requires { ⌜ v < length (verticesOf (now coords)) ⌝ }
     ensures { λ r. ⌜ r ≡ pick (hasCorner (now (face .entry)) v) seen (seeOf n d eps (vertexOf (verticesOf (now (coords .entry))) v) seen) ⌝ }
 {
+    let next = see(n, d, eps, flat::space::vertex(coords, v), seen);
+    if same(next, seen) {
+        return seen;
+    }
     if has_corner(face, v) {
         return seen;
     }
-    see(n, d, eps, flat::space::vertex(coords, v), seen)
+    next
 }
 
 // Whether both were seen.

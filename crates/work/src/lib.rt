@@ -23,6 +23,12 @@ pub enum Clipped {
     Refused(u8),
 }
 
+// A measure of what is left, or the call is refused.
+pub enum Measured {
+    Is(f64),
+    Refused(u8),
+}
+
 // The smaller of two numbers.
 pub fn shorter(a: usize, b: usize) -> usize
     ensures { λ r. ⌜ r ≡ shorterOf a b ⌝ }

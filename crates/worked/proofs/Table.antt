@@ -9,7 +9,7 @@ use Rattle.floats.specs.Pick.{magnitudeOf, largestOf}
 use Rattle.floats.specs.Root.{rootOf}
 use Rattle.flat.specs.Flat.{areaSide, summedAreaOf, signedAreaOf}
 use Rattle.work.specs.Work.{runOf, clippedOf}
-use Rattle.trim.specs.Doubled.{dist3Of, reachOf, toleranceOf, spacedFrom, spacedOf, openedOf, withoutDoubled}
+use Rattle.trim.specs.Doubled.{squareOf, dist3Of, reachOf, toleranceOf, spacedFrom, spacedOf, openedOf, withoutDoubled}
 use Rattle.clip.specs.Clip.{cutChange, planeChange, clipFaceOf}
 use Rattle.planar.specs.Planar.{edgeChange, clipConvexOf, intersectionAreaOf}
 use mathlib.Core.List.{[], _∷_}
@@ -20,7 +20,7 @@ use Rattle.worked.specs.Table.{given, stated, Claim, beside}
 
 -- every definition on the way to an answer: 'unfolding computed' opens them all
 unfoldable pub computed : Unit {0}
-unfolding Cut.computed Inside.computed Trim.computed lt foldPairs foldList countOf rootOf magnitudeOf largestOf areaSide summedAreaOf signedAreaOf runOf clippedOf dist3Of reachOf toleranceOf spacedFrom spacedOf openedOf withoutDoubled cutChange planeChange clipFaceOf edgeChange clipConvexOf intersectionAreaOf
+unfolding Cut.computed Inside.computed Trim.computed lt foldPairs foldList countOf rootOf magnitudeOf largestOf areaSide summedAreaOf signedAreaOf runOf clippedOf squareOf dist3Of reachOf toleranceOf spacedFrom spacedOf openedOf withoutDoubled cutChange planeChange clipFaceOf edgeChange clipConvexOf intersectionAreaOf
 computed = tt
 
 pub worked : Claim

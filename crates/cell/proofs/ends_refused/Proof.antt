@@ -1,10 +1,9 @@
-use mathlib.Core.Path.{_≡_, refl, ap}
-use mathlib.Core.Bool.{not}
-use Prim.Native.Nat.{_-_}
+use mathlib.Core.Path.{_≡_, refl}
+use Prim.Native.Nat.{_-_, _<_}
+use native.Mathlib.Omega.{arith}
 use lib.ListN.{length}
-use Rattle.cell.specs.Faces.{rises}
 use Rattle.cell.specs.Refusals.{endsRefused}
-use Rattle.cell.proofs.Faces.{Rising, rises-start, rises-on, rises-falls, rises-last}
+use Rattle.cell.proofs.Faces.{Falling, falls-start, falls-turn, falls-end}
 use borrow.Author.Needs.{needs}
 use Rattle.cell.proofs.ends_refused.Statement.{statement}
 use Rattle.cell.proofs.ends_refused.Tie as tie
@@ -14,12 +13,14 @@ unfolding endsRefused
 ends-refused-spec =
     tie.close
     (tie.spec
-    (λ corners ends n start₀ k₀ start k. (n ≡ length ends) × Rising ends (length corners) (rises 0 ends (length corners)) start k)
-    (λ corners ends n start₀ k₀ start k. n - k)
-    (λ c. (refl, rises-start refl))
+    (λ corners ends n fall₀ start₀ k₀ fall start k. (n ≡ length ends) × (start < 4294967296) × Falling ends (length corners) (endsRefused corners ends) fall start k)
+    (λ corners ends n fall₀ start₀ k₀ fall start k. n - k)
+    (λ c. (refl, search needs, falls-start refl))
     (λ c κs. search needs)
-    (λ c. ap not (rises-falls (c .before .before .before .loop .inv .1) (search needs) (c .before .corner .ensures .0) (search needs)))
+    (λ c κs. search needs)
     (λ c. search needs)
     (λ c. search needs)
-    (λ c. (c .before .before .before .loop .inv .0, rises-on (c .before .before .before .loop .inv .1) (search needs) (c .before .corner .ensures .0) (search needs)))
-    (λ c. ap not (rises-last (c .before .loop .inv .1) (search needs))))
+    (λ c. (c .before .before .before .loop .inv .0, c .before .stored .ensures .1, falls-turn (c .before .before .before .loop .inv .2) (search needs) (c .before .stored .ensures .0) (c .either .ensures)))
+    (λ c. omega (arith, c .before .loop .inv .1))
+    (λ c κs. search needs)
+    (λ c. falls-end (c .before .before .loop .inv .2) (search needs) (c .either2 .ensures)))

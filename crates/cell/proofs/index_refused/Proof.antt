@@ -12,8 +12,9 @@ unfolding indexRefused
 index-refused-spec =
     tie.close
     (tie.spec
-    (λ n cs m refused₀ i₀ refused i. (m ≡ length cs) × Taking (orTest (notBelow n)) cs (indexRefused n cs) i refused)
-    (λ n cs m refused₀ i₀ refused i. m - i)
+    (λ n cs beyond m refused₀ i₀ refused i. (m ≡ length cs) × Taking (orTest (notBelow n)) cs (indexRefused n cs) i refused)
+    (λ n cs beyond m refused₀ i₀ refused i. m - i)
+    (λ c. search needs)
     (λ c. (refl, take-start (any-taken (notBelow _) _)))
     (λ c κs. search needs)
     (λ c κs. search needs)

@@ -1,4 +1,5 @@
 use Rattle.flat.specs.Points.{widenOf}
+use native.Mathlib.Omega.{arith}
 use borrow.Author.Needs.{needs}
 use Rattle.outline.proofs.widen2.Statement.{statement}
 use Rattle.outline.proofs.widen2.Tie as tie
@@ -12,14 +13,14 @@ widen2-spec =
     (λ c. search needs)
     (λ c. search needs)
     (λ c. search needs)
-    (λ c κs. search needs)
+    (λ c κs. c .before .before .pre .low 0 (omega arith))
     (λ c. search needs)
     (λ c. search needs)
-    (λ c κs. search needs)
+    (λ c κs. c .before .before .before .pre .low 1 (omega arith))
     (λ c. search needs)
     (λ c. search needs)
-    (λ c κs. search needs)
+    (λ c κs. c .before .before .before .before .pre .high 0 (omega arith))
     (λ c. search needs)
     (λ c. search needs)
-    (λ c κs. search needs)
-    (λ c. rw (← c .before .before .before .least .ensures, ← c .before .before .least2 .ensures, ← c .before .largest .ensures, ← c .largest2 .ensures)))
+    (λ c κs. c .before .before .before .before .before .pre .high 1 (omega arith))
+    (λ c. rw (← c .before .before .before .lesser .ensures, ← c .before .before .lesser2 .ensures, ← c .before .greater .ensures, ← c .greater2 .ensures)))

@@ -2,8 +2,7 @@ use mathlib.Core.Path.{refl}
 use native.Mathlib.Nat.{sub-zero}
 use native.Mathlib.Omega.{arith}
 use lib.ListN.{length-take}
-use Rattle.places.proofs.Stored.{length-pairs}
-use Rattle.trim.proofs.Stored.{pairs-take}
+use Rattle.places.proofs.Stored.{length-pairs, pairs-take}
 use borrow.Author.Needs.{needs}
 use Rattle.planar.proofs.advance_from.Statement.{statement}
 use Rattle.planar.proofs.advance_from.Tie as tie

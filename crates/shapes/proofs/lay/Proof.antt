@@ -20,6 +20,6 @@ lay-spec =
     (λ c κs. omega (arith, length-threes (c .before .before .before .loop .coords)))
     (λ c. search needs)
     (λ c. search needs)
-    (λ c. (refl, lay-turn (c .before .before .before .before .before .before .loop .inv .1) (search needs) (c .before .before .lay-point .kept .0) (c .before .before .lay-point .ensures)))
+    (λ c. (refl, lay-turn (c .before .before .before .before .before .before .loop .inv .1) (search needs) (c .before .before .put-vertex .kept .0) (c .before .before .put-vertex .ensures)))
     (λ c. search needs)
     (λ c. lay-end (c .before .loop .inv .1) (search needs)))

@@ -14,6 +14,6 @@ push-spec =
     (λ c κs. omega (arith, length-threes (c .before .before .before .args .s .now)))
     (λ c. search needs)
     (λ c. search needs)
-    (λ c. filled-one refl (c .before .before .put .ensures))
+    (λ c. filled-one refl (c .before .before .put-vertex .ensures))
     (λ c. search needs)
     (λ c. filled-one refl (sym (set-out _ _ _ (omega (arith, length-threes (c .before .before .args .s .now)))))))

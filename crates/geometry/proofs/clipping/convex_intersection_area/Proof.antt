@@ -1,7 +1,7 @@
 use native.Mathlib.Nat.{sub-zero}
 use mathlib.Core.Path.{sym, _∙_, ap}
 use Rattle.refusals.proofs.Refusals.{planar-known}
-use Rattle.geometry.specs.Clipping.{outlineLeft, areaNumber}
+use Rattle.geometry.specs.Clipping.{outlineLeft, measuredNumber}
 use Rattle.geometry.proofs.WorkLists.{measure-refused, measure-passed}
 use borrow.Author.Needs.{needs}
 use Rattle.geometry.proofs.clipping.convex_intersection_area.Statement.{statement}
@@ -21,4 +21,4 @@ convex-intersection-area-spec =
     (λ c κs. search needs)
     (λ c. search needs)
     (λ c. search needs)
-    (λ c. measure-passed (c .before .before .before .before .before .before .before .before .before .before .before .before .before .before .before .before .planar-refusal .ensures) (c .before .before .before .before .before .before .before .before .before .before .before .before .before .before .before .if1 .left) (c .area-number .ensures ∙ ap areaNumber (c .before .before .before .before .before .before .before .before .before .before .before .before .convex-intersection-area .ensures)) (c .before .before .before .before .before .settle .ensures .0 ∙ rw (sub-zero, c .before .before .before .before .before .before .before .before .before .before .before .before .convex-intersection-area .kept .1 .1 .0)) (c .before .before .before .before .before .settle .ensures .1 ∙ rw (sub-zero, c .before .before .before .before .before .before .before .before .before .before .before .before .convex-intersection-area .kept .1 .1 .1 .0))))
+    (λ c. measure-passed (c .before .before .before .before .before .before .before .before .before .before .before .before .before .before .before .before .planar-refusal .ensures) (c .before .before .before .before .before .before .before .before .before .before .before .before .before .before .before .if1 .left) (c .measured-number .ensures ∙ ap measuredNumber (c .before .before .before .before .before .before .before .before .before .before .before .before .convex-intersection-area .ensures)) (c .before .before .before .before .before .settle .ensures .0 ∙ rw (sub-zero, c .before .before .before .before .before .before .before .before .before .before .before .before .convex-intersection-area .kept .1 .1 .0)) (c .before .before .before .before .before .settle .ensures .1 ∙ rw (sub-zero, c .before .before .before .before .before .before .before .before .before .before .before .before .convex-intersection-area .kept .1 .1 .1 .0))))

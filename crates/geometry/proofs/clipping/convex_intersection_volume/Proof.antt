@@ -1,6 +1,6 @@
 use mathlib.Core.Path.{sym, _∙_, ap}
 use Rattle.refusals.proofs.Refusals.{overlap-known}
-use Rattle.geometry.specs.Clipping.{cellsOverlap, sumNumber}
+use Rattle.geometry.specs.Clipping.{cellsOverlap, measuredNumber}
 use Rattle.geometry.proofs.WorkLists.{measure-refused, measure-passed}
 use borrow.Author.Needs.{needs}
 use Rattle.geometry.proofs.clipping.convex_intersection_volume.Statement.{statement}
@@ -19,4 +19,4 @@ convex-intersection-volume-spec =
     (λ c κs. search needs)
     (λ c. search needs)
     (λ c. search needs)
-    (λ c. measure-passed (c .before .before .before .before .before .before .before .before .before .overlap-refusal .ensures) (c .before .before .before .before .before .before .before .before .if1 .left) (c .sum-number .ensures ∙ ap sumNumber (c .before .before .before .before .before .convex-intersection-volume .ensures .0)) (c .before .before .before .before .before .convex-intersection-volume .ensures .1 .0) (c .before .before .before .before .before .convex-intersection-volume .ensures .1 .1)))
+    (λ c. measure-passed (c .before .before .before .before .before .before .before .before .before .overlap-refusal .ensures) (c .before .before .before .before .before .before .before .before .if1 .left) (c .measured-number .ensures ∙ ap measuredNumber (c .before .before .before .before .before .convex-intersection-volume .ensures .0)) (c .before .before .before .before .before .convex-intersection-volume .ensures .1 .0) (c .before .before .before .before .before .convex-intersection-volume .ensures .1 .1)))

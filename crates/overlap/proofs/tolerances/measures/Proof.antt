@@ -16,4 +16,5 @@ measures-spec =
     (λ c κs. search needs)
     (λ c κs. search needs)
     (λ c κs. search needs)
-    (λ c. rw (radial-both (verticesOf (c .before .before .before .before .before .before .before .before .args .a .now)) (verticesOf (c .before .before .before .before .before .before .before .before .args .b .now))) (cc)))
+    (λ c κs. search needs)
+    (λ c. rw (radial-both (verticesOf (c .before .before .before .before .before .before .before .before .before .args .a .now)) (verticesOf (c .before .before .before .before .before .before .before .before .before .args .b .now))) (cc)))

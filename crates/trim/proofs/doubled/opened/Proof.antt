@@ -17,5 +17,5 @@ opened-spec =
     (λ c κs. omega (arith, length-threes (c .before .before .before .args .s .now)))
     (λ c κs. search needs)
     (λ c. search needs)
-    (λ c. rw (← length-threes (c .before .before .before .before .before .before .args .s .now)) (rw (c .if2 .taken) at (opened-long (c .before .before .before .before .before .before .args .eps) (verticesOf (c .before .before .before .before .before .before .args .s .now)) (omega (arith, length-threes (c .before .before .before .before .before .before .args .s .now))) (c .before .before .before .vertex .ensures) (rw (length-threes (c .before .before .before .before .before .before .args .s .now)) (c .before .before .vertex2 .ensures)) (c .before .dist3 .ensures))))
-    (λ c. rw (← length-threes (c .before .before .before .before .before .before .args .s .now)) (rw (c .if2 .left) at (opened-long (c .before .before .before .before .before .before .args .eps) (verticesOf (c .before .before .before .before .before .before .args .s .now)) (omega (arith, length-threes (c .before .before .before .before .before .before .args .s .now))) (c .before .before .before .vertex .ensures) (rw (length-threes (c .before .before .before .before .before .before .args .s .now)) (c .before .before .vertex2 .ensures)) (c .before .dist3 .ensures)))))
+    (λ c. rw (← length-threes (c .before .before .before .before .before .before .args .s .now)) (rw (c .if2 .taken) at (opened-long (c .before .before .before .before .before .before .args .eps) (verticesOf (c .before .before .before .before .before .before .args .s .now)) (omega (arith, length-threes (c .before .before .before .before .before .before .args .s .now))) (c .before .before .before .vertex .ensures) (rw (length-threes (c .before .before .before .before .before .before .args .s .now)) (c .before .before .vertex2 .ensures)) (c .before .is-near .ensures))))
+    (λ c. rw (← length-threes (c .before .before .before .before .before .before .args .s .now)) (rw (c .if2 .left) at (opened-long (c .before .before .before .before .before .before .args .eps) (verticesOf (c .before .before .before .before .before .before .args .s .now)) (omega (arith, length-threes (c .before .before .before .before .before .before .args .s .now))) (c .before .before .before .vertex .ensures) (rw (length-threes (c .before .before .before .before .before .before .args .s .now)) (c .before .before .vertex2 .ensures)) (c .before .is-near .ensures)))))

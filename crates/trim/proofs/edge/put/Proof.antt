@@ -1,8 +1,7 @@
 use native.Mathlib.Omega.{arith}
 use lib.Ieee.{nan}
 use lib.ListN.{length-set}
-use Rattle.places.proofs.Stored.{length-pairs}
-use Rattle.trim.proofs.Stored.{pairs-put}
+use Rattle.places.proofs.Stored.{length-pairs, pairs-put}
 use borrow.Author.Needs.{needs}
 use Rattle.trim.proofs.edge.put.Statement.{statement}
 use Rattle.trim.proofs.edge.put.Tie as tie

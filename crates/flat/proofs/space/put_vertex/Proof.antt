@@ -1,14 +1,13 @@
 use native.Mathlib.Omega.{arith}
-use lib.ListN.{length-set}
 use lib.Ieee.{nan}
-use Rattle.places.proofs.Stored.{length-threes}
-use Rattle.shapes.proofs.Laying.{threes-set, three-whole}
+use lib.ListN.{length-set}
+use Rattle.places.proofs.Stored.{length-threes, threes-set}
 use borrow.Author.Needs.{needs}
-use Rattle.shapes.proofs.lay_point.Statement.{statement}
-use Rattle.shapes.proofs.lay_point.Tie as tie
+use Rattle.flat.proofs.space.put_vertex.Statement.{statement}
+use Rattle.flat.proofs.space.put_vertex.Tie as tie
 
-pub lay-point-spec : {M : Type 1} → statement M
-lay-point-spec =
+pub put-vertex-spec : {M : Type 1} → statement M
+put-vertex-spec =
     tie.close
     (tie.spec
     (λ c. omega (arith, length-threes (c .args .coords .now)))
@@ -23,6 +22,5 @@ lay-point-spec =
     (λ c. omega (arith, length-threes (c .args .coords .now)))
     (λ c. omega (arith, length-threes (c .args .coords .now)))
     (λ c. simp length-set (omega (arith, length-threes (c .args .coords .now))))
-    (λ c. simp length-set)
-    (λ c. let whole = three-whole (c .args .t3) nan (omega arith) in
-    rw (← whole) (threes-set (c .args .coords .now) (c .args .i) _ _ _ (omega (arith, length-threes (c .args .coords .now))))))
+    (λ c. search needs)
+    (λ c. threes-set (c .args .coords .now) (c .args .v) (c .args .t3) nan (search needs) (omega (arith, length-threes (c .args .coords .now)))))

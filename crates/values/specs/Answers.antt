@@ -2,7 +2,7 @@
 use Prim.Native.Nat.{ℕ}
 use mathlib.Core.Bool.{Bool}
 use mathlib.Core.List.{List, [], _∷_, _++_}
-use lib.Dec.{ltb}
+use lib.Dec.{ltb, eqb}
 use lib.ListN.{length, drop}
 use lib.Ieee.{Float}
 use Rattle.places.specs.Loops.{pick}
@@ -16,6 +16,9 @@ use Rattle.geometry.specs.declared.PlaneExtent.{PlaneExtent}
 use Rattle.geometry.specs.declared.Done.{Done}
 use Rattle.geometry.specs.declared.Surveyed.{Surveyed}
 use Rattle.geometry.specs.declared.PlaneAnswer.{PlaneAnswer}
+use Rattle.geometry.specs.declared.Described.{Described}
+use Rattle.cell.specs.declared.Convexity.{Convexity}
+use Rattle.cell.specs.declared.Convexity.the-variants.{Convex, Concave, Unknown}
 use Rattle.planes.specs.declared.Plane.{Plane}
 use Rattle.work.specs.declared.Clipped.{Clipped}
 use Rattle.flat.specs.Points.{at}
@@ -109,6 +112,25 @@ surveyedCounts (Surveyed.Refused k) volume old = old
 abbrev pub surveyedVolume : Surveyed → ℕ → List Float → List Float
 surveyedVolume (Surveyed.Is s) counts old = pick (ltb counts 4) old (front (s .volume ∷ []) old)
 surveyedVolume (Surveyed.Refused k) counts old = old
+
+-- what is known of a cell's shape, as a number
+abbrev pub shapeNumber : Convexity → ℕ
+shapeNumber Convex = 0
+shapeNumber Concave = 1
+shapeNumber Unknown = 2
+
+-- what is known of a cell's shape: 0 convex, 1 concave, any other number nothing
+unfoldable pub shapeKnown : ℕ → Convexity
+shapeKnown shape = pick (eqb shape 0) Convex (pick (eqb shape 1) Concave Unknown)
+
+-- a cell's description: how many vertices, corners and faces, and what is known of its shape
+abbrev pub describedCode : Described → ℕ → ℕ
+describedCode (Described.Is c) room = roomCode 4 room
+describedCode (Described.Refused k) room = k
+
+abbrev pub describedInto : Described → List ℕ → List ℕ
+describedInto (Described.Is c) old = front (c .vertices ∷ c .corners ∷ c .faces ∷ shapeNumber (c .convexity) ∷ []) old
+describedInto (Described.Refused k) old = old
 
 -- the plane of a face: the normal, then the offset
 abbrev pub planeCode : PlaneAnswer → ℕ → ℕ

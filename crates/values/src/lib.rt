@@ -1,12 +1,23 @@
 // The answers of the public entries as numbers in lent lists: what an entry answers is put at the front of a list, if that has the room.
+pub mod given;
+pub mod shown;
+
 ghost use mathlib.Core.Path.{_≡_};
 ghost use mathlib.Core.List.{[], _∷_};
 ghost use lib.ListN.{length};
 ghost use Rattle.geometry.specs.declared.Surveyed.{Surveyed};
-ghost use Rattle.values.specs.Answers.{roomCode, front, one, numberCode, numberInto, truthCode, truthInto, countCode, countInto, placeCode, placeInto, extentCode, extentInto, planePlaceCode, planePlaceInto, planeExtentCode, planeExtentInto, doneCode, surveyedCode, surveyedCounts, surveyedVolume, planeCode, planeInto, clippedCode, clippedInto};
+ghost use Rattle.geometry.specs.declared.Described.{Described};
+ghost use Rattle.values.specs.Answers.{roomCode, front, one, numberCode, numberInto, truthCode, truthInto, countCode, countInto, placeCode, placeInto, extentCode, extentInto, planePlaceCode, planePlaceInto, planeExtentCode, planeExtentInto, doneCode, surveyedCode, surveyedCounts, surveyedVolume, shapeNumber, describedCode, describedInto, planeCode, planeInto, clippedCode, clippedInto};
 
 // 1 for yes, 0 for no.
 pub fn one_if(b: bool) -> usize
+    ensures { λ r. ⌜ r ≡ one b ⌝ }
+{
+    if b { 1 } else { 0 }
+}
+
+// The same as a byte, which a function answers.
+pub fn bit(b: bool) -> u8
     ensures { λ r. ⌜ r ≡ one b ⌝ }
 {
     if b { 1 } else { 0 }
@@ -77,6 +88,21 @@ pub fn put_six(x: f64, y: f64, z: f64, u: f64, v: f64, w: f64, out: &mut [f64]) 
     out[4] = v;
     out[5] = w;
     0
+}
+
+// A point at the front of a list, if it has the room.
+pub fn put_point2(p: [f64; 2], out: &mut [f64]) -> u8
+    ensures code { λ r. ⌜ r ≡ roomCode 2 (length (now (out .entry))) ⌝ }
+    ensures written { λ _. ⌜ now (out .exit) ≡ front p (now (out .entry)) ⌝ }
+{
+    put_two(p[0], p[1], out)
+}
+
+pub fn put_point3(p: [f64; 3], out: &mut [f64]) -> u8
+    ensures code { λ r. ⌜ r ≡ roomCode 3 (length (now (out .entry))) ⌝ }
+    ensures written { λ _. ⌜ now (out .exit) ≡ front p (now (out .entry)) ⌝ }
+{
+    put_three(p[0], p[1], p[2], out)
 }
 
 // A count at the front of a list, if it has the room.
@@ -208,6 +234,51 @@ pub fn put_survey(s: geometry::Survey, counts: &mut [usize], volume: &mut [f64])
     counts[3] = s.contained;
     volume[0] = s.volume;
     0
+}
+
+// What is known of a shape, as a number.
+fn shape_number(shape: cell::Convexity) -> usize
+    ensures { λ r. ⌜ r ≡ shapeNumber shape ⌝ }
+{
+    match shape {
+        cell::Convexity::Convex => 0,
+        cell::Convexity::Concave => 1,
+        cell::Convexity::Unknown => 2,
+    }
+}
+
+// Four counts at the front of a list, if it has the room.
+fn put_counts(a: usize, b: usize, c: usize, d: usize, out: &mut [usize]) -> u8
+    ensures code { λ r. ⌜ r ≡ roomCode 4 (length (now (out .entry))) ⌝ }
+    ensures written { λ _. ⌜ now (out .exit) ≡ front (a ∷ b ∷ c ∷ d ∷ []) (now (out .entry)) ⌝ }
+{
+    if out.len() < 4 {
+        return 6;
+    }
+    out[0] = a;
+    out[1] = b;
+    out[2] = c;
+    out[3] = d;
+    0
+}
+
+// A cell's description: how many vertices, corners and faces, and what is known of its shape.
+fn put_cell(c: cell::Cell, out: &mut [usize]) -> u8
+    ensures code { λ r. ⌜ r ≡ describedCode (Described.Is c) (length (now (out .entry))) ⌝ }
+    ensures written { λ _. ⌜ now (out .exit) ≡ describedInto (Described.Is c) (now (out .entry)) ⌝ }
+{
+    let shape = c.convexity;
+    put_counts(c.vertices, c.corners, c.faces, shape_number(shape), out)
+}
+
+pub fn put_described(a: geometry::Described, out: &mut [usize]) -> u8
+    ensures code { λ r. ⌜ r ≡ describedCode a (length (now (out .entry))) ⌝ }
+    ensures written { λ _. ⌜ now (out .exit) ≡ describedInto a (now (out .entry)) ⌝ }
+{
+    match a {
+        geometry::Described::Is(c) => put_cell(c, out),
+        geometry::Described::Refused(why) => why,
+    }
 }
 
 // The plane of a face: its normal, then its offset.

@@ -1,0 +1,16 @@
+use Rattle.abi.proofs.Shapes.{truth-refused, truth-passed}
+use borrow.Author.Needs.{needs}
+use Rattle.abi.proofs.fixed.wegrusamt_hex_contains.Statement.{statement}
+use Rattle.abi.proofs.fixed.wegrusamt_hex_contains.Tie as tie
+
+pub wegrusamt-hex-contains-spec : {M : Type 1} → statement M
+wegrusamt-hex-contains-spec =
+    tie.close
+    (tie.spec
+    (λ c. truth-refused 24 (c .before .before .before .args .p .now) _ _ (c .if1 .taken))
+    (λ c κs. search needs)
+    (λ c κs. search needs)
+    (λ c κs. search needs)
+    (λ c κs. search needs)
+    (λ c. search needs)
+    (λ c. truth-passed 24 (c .before .before .before .before .before .before .before .before .before .before .args .p .now) _ _ _ _ (c .before .before .before .before .before .before .before .if1 .left) (cc) (cc)))

@@ -1,0 +1,12 @@
+use borrow.Author.Needs.{needs}
+use Rattle.abi.proofs.outward.wegrusamt_plane_of_face.Statement.{statement}
+use Rattle.abi.proofs.outward.wegrusamt_plane_of_face.Tie as tie
+
+pub wegrusamt-plane-of-face-spec : {M : Type 1} → statement M
+wegrusamt-plane-of-face-spec =
+    tie.close
+    (tie.spec
+    (λ c κs. search needs)
+    (λ c κs. search needs)
+    (λ c. search needs)
+    (λ c. (cc, cc)))

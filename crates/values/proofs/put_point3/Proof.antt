@@ -1,0 +1,16 @@
+use lib.Ieee.{nan}
+use Rattle.places.proofs.Stored.{three-of}
+use borrow.Author.Needs.{needs}
+use Rattle.values.proofs.put_point3.Statement.{statement}
+use Rattle.values.proofs.put_point3.Tie as tie
+
+pub put-point3-spec : {M : Type 1} → statement M
+put-point3-spec =
+    tie.close
+    (tie.spec
+    (λ c. search needs)
+    (λ c. search needs)
+    (λ c. search needs)
+    (λ c κs. search needs)
+    (λ c. search needs)
+    (λ c. (c .before .before .put-three .ensures .0, rw (← three-of (c .before .before .before .before .before .args .t1) nan (c .before .before .before .before .before .good .0 .1 .0 .1)) (c .before .before .put-three .ensures .1))))

@@ -1,0 +1,72 @@
+//! A cell that owns its lists.
+
+use crate::{Cell, Refusal, into_ccw};
+
+/// A cell that owns its lists, to build one face by face and to turn its faces.
+///
+/// ```
+/// use wegrusamt::CellBuf;
+///
+/// let mut cell = CellBuf::from_faces(
+///     [[0.0; 3], [1.0, 0.0, 0.0], [0.0, 1.0, 0.0], [0.0, 0.0, 1.0]],
+///     [[0, 1, 2], [0, 1, 3], [1, 2, 3], [2, 0, 3]],
+/// );
+/// assert!(!cell.as_cell().closed()?);
+///
+/// cell.into_ccw()?;
+/// assert_eq!(cell.corners[..3], [2, 1, 0]);
+/// assert!(cell.as_cell().closed()?);
+/// # Ok::<(), wegrusamt::Refusal>(())
+/// ```
+#[derive(Clone, Debug, Default, PartialEq)]
+pub struct CellBuf {
+    /// The points, three coordinates each.
+    pub points: Vec<[f64; 3]>,
+    /// The corners of all faces, as numbers of points.
+    pub corners: Vec<u32>,
+    /// Where each face ends in the corners.
+    pub ends: Vec<u32>,
+}
+
+impl CellBuf {
+    /// A cell with no point and no face yet.
+    pub fn new() -> Self {
+        CellBuf::default()
+    }
+
+    /// The cell with these points and faces. Nothing is checked yet.
+    pub fn from_faces<F: AsRef<[u32]>>(
+        points: impl Into<Vec<[f64; 3]>>,
+        faces: impl IntoIterator<Item = F>,
+    ) -> Self {
+        let mut cell = CellBuf::new();
+        cell.points = points.into();
+        for face in faces {
+            cell.push_face(face.as_ref());
+        }
+        cell
+    }
+
+    /// Adds a face: its corners, and their end.
+    pub fn push_face(&mut self, corners: &[u32]) {
+        self.corners.extend_from_slice(corners);
+        self.end_face();
+    }
+
+    /// Ends a face whose corners were pushed to the list one by one.
+    pub fn end_face(&mut self) {
+        // A corner list of that length is refused for its size, whatever its ends are.
+        let end = u32::try_from(self.corners.len()).unwrap_or(u32::MAX);
+        self.ends.push(end);
+    }
+
+    /// The cell over these lists, to ask.
+    pub fn as_cell(&self) -> Cell<'_> {
+        Cell::new(&self.points, &self.corners, &self.ends)
+    }
+
+    /// Turns every face outward in the corner list: see [`into_ccw()`].
+    pub fn into_ccw(&mut self) -> Result<(), Refusal> {
+        into_ccw(&self.points, &mut self.corners, &self.ends)
+    }
+}

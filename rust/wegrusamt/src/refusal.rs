@@ -1,0 +1,86 @@
+//! Why a call is refused.
+
+use std::error::Error;
+use std::fmt;
+
+/// Why a call is refused: document 01's table. The first of them that applies is answered.
+///
+/// ```
+/// use wegrusamt::{Cell, Refusal};
+///
+/// let too_far = [[0.0, 0.0, f64::INFINITY]];
+/// let refusal = Cell::new(&too_far, &[], &[]).volume().unwrap_err();
+/// assert_eq!(refusal, Refusal::Number);
+/// assert_eq!(refusal.number(), 2);
+/// ```
+#[derive(Clone, Copy, Debug, PartialEq, Eq, Hash)]
+#[repr(u8)]
+pub enum Refusal {
+    /// 1: 0 or over 256 vertices; over 256 faces, 2,048 corners, 256 query points, 256 planes or
+    /// 512 points of the plane; over 2,304 entries of a list with marks; a work list of over 3,072
+    /// numbers.
+    Size = 1,
+    /// 2: a coordinate or query value is NaN, infinite or above 2^40 in magnitude.
+    Number = 2,
+    /// 3: the ends fall, or the last is not the corner count.
+    Ends = 3,
+    /// 4: a corner is not below the vertex count, or a face number not below the face count.
+    Index = 4,
+    /// 5: a face has no corners. Only planes, outward turning and intersection refuse it.
+    EmptyFace = 5,
+    /// 6: a list that is written to is too short. Here that can only be a work list.
+    Room = 6,
+}
+
+impl Refusal {
+    /// All refusals, by their numbers.
+    pub const ALL: [Refusal; 6] = [
+        Refusal::Size,
+        Refusal::Number,
+        Refusal::Ends,
+        Refusal::Index,
+        Refusal::EmptyFace,
+        Refusal::Room,
+    ];
+
+    /// The refusal's number in document 01, from 1 to 6.
+    pub const fn number(self) -> u8 {
+        self as u8
+    }
+
+    /// The value where the archive answers 0, else the refusal.
+    ///
+    /// Panics at a number that no entry answers: then the archive is not Wegrusamt's.
+    pub(crate) fn answer<T>(number: u8, value: T) -> Result<T, Refusal> {
+        if number == 0 {
+            return Ok(value);
+        }
+        match Refusal::ALL.get(usize::from(number) - 1) {
+            Some(&refusal) => Err(refusal),
+            None => panic!("the archive answers {number}, which is no refusal: is it Wegrusamt's?"),
+        }
+    }
+}
+
+impl fmt::Display for Refusal {
+    fn fmt(&self, f: &mut fmt::Formatter<'_>) -> fmt::Result {
+        let why = match self {
+            Refusal::Size => "a list is empty, too long or not of whole points",
+            Refusal::Number => "a number is NaN, infinite or above 2^40 in magnitude",
+            Refusal::Ends => "the face ends fall, or the last is not the corner count",
+            Refusal::Index => "a corner or face number is out of range",
+            Refusal::EmptyFace => "a face has no corners",
+            Refusal::Room => "a list that is written to is too short",
+        };
+        write!(f, "refusal {}: {why}", self.number())
+    }
+}
+
+impl Error for Refusal {}
+
+/// Makes sure that a call was not refused, for entries that refuse nothing but a wrong length.
+pub(crate) fn answered(number: u8) {
+    if let Err(refusal) = Refusal::answer(number, ()) {
+        panic!("the archive refuses what it takes ({refusal}): is it Wegrusamt's?");
+    }
+}

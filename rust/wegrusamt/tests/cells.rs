@@ -1,0 +1,407 @@
+//! Document 01's rows and every refusal, asked through the crate.
+
+use wegrusamt::{Cell, CellBuf, Plane, Refusal, Shape, floats, into_ccw, planar, point_in_phed};
+use wegrusamt::{FACE_END, WORK_NUMBERS, leaves, shapes, space};
+
+const CUBE: [[f64; 3]; 8] = [
+    [0.0, 0.0, 0.0],
+    [1.0, 0.0, 0.0],
+    [1.0, 1.0, 0.0],
+    [0.0, 1.0, 0.0],
+    [0.0, 0.0, 1.0],
+    [1.0, 0.0, 1.0],
+    [1.0, 1.0, 1.0],
+    [0.0, 1.0, 1.0],
+];
+const FACES: [[u32; 4]; 6] = [
+    [0, 3, 2, 1],
+    [4, 5, 6, 7],
+    [0, 1, 5, 4],
+    [2, 3, 7, 6],
+    [1, 2, 6, 5],
+    [3, 0, 4, 7],
+];
+const SQUARE: [[f64; 2]; 4] = [[0.0, 0.0], [2.0, 0.0], [2.0, 2.0], [0.0, 2.0]];
+const WEST_OF_HALF: Plane = Plane {
+    normal: [1.0, 0.0, 0.0],
+    offset: 0.5,
+};
+
+/// The unit cube, moved along x.
+fn cube_at(x: f64) -> CellBuf {
+    CellBuf::from_faces(CUBE.map(|[a, b, c]| [a + x, b, c]), FACES)
+}
+
+/// What each question to a cell answers, where it is refused.
+fn refusals(cell: &Cell<'_>) -> Vec<Option<Refusal>> {
+    let other = cube_at(0.0);
+    let mut corners = cell.corners.to_vec();
+    vec![
+        cell.volume().err(),
+        cell.centroid().err(),
+        cell.geometric_centroid().err(),
+        cell.bounds().err(),
+        cell.scale().err(),
+        cell.closed().err(),
+        cell.contains([0.0; 3]).err(),
+        cell.is_convex(Shape::Unknown).err(),
+        cell.triangles(0).err(),
+        cell.survey(&[]).err(),
+        cell.plane_of_face(0).err(),
+        cell.clip_face(0, &[], 0.0).err(),
+        cell.convex_intersection_volume(&other.as_cell()).err(),
+        other.as_cell().convex_intersection_volume(cell).err(),
+        into_ccw(cell.points, &mut corners, cell.ends).err(),
+    ]
+}
+
+fn all_refuse(cell: &Cell<'_>, refusal: Refusal) {
+    for (question, answer) in refusals(cell).into_iter().enumerate() {
+        assert_eq!(answer, Some(refusal), "question {question}");
+    }
+}
+
+#[test]
+fn the_cube_is_measured() {
+    let buf = cube_at(0.0);
+    let cube = buf.as_cell();
+    assert_eq!(refusals(&cube), [None; 15]);
+    assert_eq!(cube.volume(), Ok(1.0));
+    assert_eq!(cube.centroid(), Ok([0.5; 3]));
+    assert_eq!(cube.geometric_centroid(), Ok([0.5; 3]));
+    assert_eq!(cube.bounds(), Ok([[0.0; 3], [1.0; 3]]));
+    assert_eq!(cube.scale(), Ok(1.0));
+    assert_eq!(cube.closed(), Ok(true));
+    assert_eq!(cube.triangles(0), Ok(vec![[1, 0, 3], [3, 2, 1]]));
+    assert_eq!(cube.contains([0.0, 0.5, 0.5]), Ok(true));
+    assert_eq!(cube.contains([1.0, 0.5, 0.5]), Ok(false));
+    assert_eq!(cube.contains([0.5, 1.0, 0.5]), Ok(false));
+}
+
+#[test]
+fn the_survey_says_what_the_report_says() {
+    let mut buf = cube_at(0.0);
+    let survey = buf.as_cell().survey(&[[0.5; 3], [2.0; 3]]).unwrap();
+    assert_eq!(
+        (survey.triangles, survey.closed, survey.short),
+        (12, true, 0)
+    );
+    assert_eq!((survey.contained, survey.volume), (1, 1.0));
+    buf.corners[..4].copy_from_slice(&[1, 2, 3, 0]);
+    let survey = buf.as_cell().survey(&[]).unwrap();
+    assert!(!survey.closed);
+    assert_eq!(survey.volume.to_bits(), 0x3FE5_5555_5555_5555);
+}
+
+#[test]
+fn a_cut_that_stops_short_has_fewer_triangles() {
+    let outline = [[0, 0], [10, 0], [0, 10], [0, 0], [0, -1], [-1, -1], [-1, 0]];
+    let points = outline.map(|[x, y]| [f64::from(x), f64::from(y), 0.0]);
+    let cell = CellBuf::from_faces(points, [[0, 1, 2, 3, 4, 5, 6]]);
+    let triangles = cell.as_cell().triangles(0).unwrap();
+    assert_eq!(triangles, [[6, 0, 1], [6, 1, 2], [2, 3, 4]]);
+    assert_eq!(cell.as_cell().survey(&[]).unwrap().short, 1);
+}
+
+#[test]
+fn what_is_known_of_the_shape_is_answered() {
+    let buf = cube_at(0.0);
+    assert_eq!(buf.as_cell().is_convex(Shape::Unknown), Ok(true));
+    assert_eq!(buf.as_cell().is_convex(Shape::Concave), Ok(false));
+    let mut dented = buf.clone();
+    dented.points.push([0.5, 0.5, 2.0]);
+    assert_eq!(dented.as_cell().is_convex(Shape::Unknown), Ok(false));
+    assert_eq!(dented.as_cell().is_convex(Shape::Convex), Ok(true));
+}
+
+#[test]
+fn faces_are_turned_outward() {
+    let outward = cube_at(0.0);
+    let mut turned = outward.clone();
+    turned.corners[..4].reverse();
+    turned.corners[20..].reverse();
+    turned.into_ccw().unwrap();
+    assert_eq!(turned, outward);
+}
+
+#[test]
+fn a_face_has_a_plane() {
+    let plane = cube_at(0.0).as_cell().plane_of_face(4).unwrap();
+    assert_eq!((plane.normal, plane.offset), ([1.0, 0.0, 0.0], 1.0));
+}
+
+#[test]
+fn a_face_is_clipped() {
+    let buf = cube_at(0.0);
+    let cube = buf.as_cell();
+    let half = [
+        [0.5, 1.0, 0.0],
+        [0.5, 0.0, 0.0],
+        [0.0, 0.0, 0.0],
+        [0.0, 1.0, 0.0],
+    ];
+    let mut left = cube.clip_face(0, &[WEST_OF_HALF], 0.0).unwrap().unwrap();
+    assert_eq!(left.len(), 4);
+    left.sort_by(|a, b| a.partial_cmp(b).unwrap());
+    let mut wanted = half;
+    wanted.sort_by(|a, b| a.partial_cmp(b).unwrap());
+    assert_eq!(left, wanted);
+    let nowhere = Plane {
+        normal: [1.0, 0.0, 0.0],
+        offset: -1.0,
+    };
+    assert_eq!(cube.clip_face(0, &[WEST_OF_HALF, nowhere], 0.0), Ok(None));
+    let whole = cube.clip_face(0, &[], 0.0).unwrap().unwrap();
+    assert_eq!(whole, [CUBE[0], CUBE[3], CUBE[2], CUBE[1]]);
+}
+
+#[test]
+fn lent_lists_show_the_outline_and_end_as_zeros() {
+    let buf = cube_at(0.0);
+    let cube = buf.as_cell();
+    let mut first = [[7.0; 3]; 6];
+    let mut second = [[7.0; 3]; 5];
+    let left = cube
+        .clip_face_in(0, &[WEST_OF_HALF], 0.0, &mut first, &mut second)
+        .unwrap()
+        .unwrap();
+    assert_eq!(left.len(), 4);
+    // One cut was made, so the second list shows the outline.
+    assert_eq!(first, [[0.0; 3]; 6]);
+    assert_eq!(second[4], [0.0; 3]);
+
+    let mut few = [[7.0; 3]; 3];
+    let answer = cube.clip_face_in(0, &[WEST_OF_HALF], 0.0, &mut few, &mut second);
+    assert_eq!(answer, Err(Refusal::Room));
+    assert_eq!((few, second), ([[0.0; 3]; 3], [[0.0; 3]; 5]));
+
+    let long = WORK_NUMBERS / 3 + 1;
+    let mut first = vec![[7.0; 3]; long];
+    let answer = cube.clip_face_in(0, &[], 0.0, &mut first, &mut second);
+    assert_eq!(answer, Err(Refusal::Size));
+    assert_eq!(first, vec![[7.0; 3]; long]);
+}
+
+#[test]
+fn cells_overlap() {
+    let (here, there) = (cube_at(0.0), cube_at(0.5));
+    let shared = here.as_cell().convex_intersection_volume(&there.as_cell());
+    assert_eq!(shared, Ok(0.5));
+    let beside = cube_at(1.0);
+    let shared = here.as_cell().convex_intersection_volume(&beside.as_cell());
+    assert_eq!(shared, Ok(0.0));
+    let mut lists = ([[7.0; 3]; 2], [[7.0; 3]; 9]);
+    let shared =
+        here.as_cell()
+            .convex_intersection_volume_in(&there.as_cell(), &mut lists.0, &mut lists.1);
+    assert_eq!(shared, Err(Refusal::Room));
+    assert_eq!(lists, ([[0.0; 3]; 2], [[0.0; 3]; 9]));
+}
+
+#[test]
+fn sizes_are_refused() {
+    all_refuse(&Cell::new(&[], &[], &[]), Refusal::Size);
+    let many = [[0.0; 3]; 257];
+    all_refuse(&Cell::new(&many, &[], &[0]), Refusal::Size);
+    assert_eq!(Cell::new(&many[1..], &[], &[]).volume(), Ok(0.0));
+    all_refuse(&Cell::new(&CUBE, &[0; 2049], &[2049]), Refusal::Size);
+    all_refuse(&Cell::new(&CUBE, &[], &[0; 257]), Refusal::Size);
+    let buf = cube_at(0.0);
+    let cube = buf.as_cell();
+    assert_eq!(cube.survey(&[[0.0; 3]; 257]), Err(Refusal::Size));
+    let planes = [WEST_OF_HALF; 257];
+    assert_eq!(cube.clip_face(0, &planes, 0.0), Err(Refusal::Size));
+}
+
+#[test]
+fn numbers_are_refused() {
+    let limit = 2.0_f64.powi(40);
+    for wild in [f64::NAN, f64::INFINITY, -f64::INFINITY, limit.next_up()] {
+        let mut buf = cube_at(0.0);
+        buf.points[7][2] = wild;
+        all_refuse(&buf.as_cell(), Refusal::Number);
+        let buf = cube_at(0.0);
+        let cube = buf.as_cell();
+        assert_eq!(cube.contains([0.0, wild, 0.0]), Err(Refusal::Number));
+        assert_eq!(cube.survey(&[[0.0, 0.0, wild]]), Err(Refusal::Number));
+    }
+    let mut buf = cube_at(0.0);
+    buf.points[7][2] = limit;
+    assert!(buf.as_cell().volume().is_ok());
+}
+
+#[test]
+fn ends_are_refused() {
+    let corners = [0, 1, 2, 3, 4, 5];
+    for ends in [&[6, 3][..], &[3, 7], &[3], &[]] {
+        all_refuse(&Cell::new(&CUBE, &corners, ends), Refusal::Ends);
+    }
+    let faces: Vec<&[u32]> = Cell::new(&CUBE, &corners, &[6, 3, 9]).faces().collect();
+    assert_eq!(faces, [&corners[..], &[], &[]]);
+}
+
+#[test]
+fn numbers_out_of_range_are_refused() {
+    all_refuse(&Cell::new(&CUBE, &[0, 1, 8], &[3]), Refusal::Index);
+    let buf = cube_at(0.0);
+    let cube = buf.as_cell();
+    for face in [6, u32::MAX as usize, usize::MAX] {
+        assert_eq!(cube.triangles(face), Err(Refusal::Index));
+        assert_eq!(cube.plane_of_face(face), Err(Refusal::Index));
+        assert_eq!(cube.clip_face(face, &[], 0.0), Err(Refusal::Index));
+    }
+    // A wrapped number would name the first face.
+    assert_eq!(cube.triangles(1 << 32), Err(Refusal::Index));
+}
+
+#[test]
+fn an_empty_face_is_refused_where_it_matters() {
+    let mut buf = cube_at(0.0);
+    buf.push_face(&[]);
+    let whole = cube_at(0.0);
+    assert_eq!(buf.as_cell().volume(), Ok(1.0));
+    assert_eq!(buf.as_cell().plane_of_face(0), Err(Refusal::EmptyFace));
+    let shared = whole.as_cell().convex_intersection_volume(&buf.as_cell());
+    assert_eq!(shared, Err(Refusal::EmptyFace));
+    let before = buf.clone();
+    assert_eq!(buf.into_ccw(), Err(Refusal::EmptyFace));
+    assert_eq!(buf, before);
+}
+
+#[test]
+fn refusals_have_the_numbers_of_document_01() {
+    let numbers = Refusal::ALL.map(Refusal::number);
+    assert_eq!(numbers, [1, 2, 3, 4, 5, 6]);
+    let boxed: Box<dyn std::error::Error> = Box::new(Refusal::EmptyFace);
+    assert_eq!(boxed.to_string(), "refusal 5: a face has no corners");
+}
+
+#[test]
+fn a_list_with_marks_is_asked() {
+    let corners = FACES.map(|[a, b, c, d]| [a, b, c, d, FACE_END]);
+    let corners = corners.as_flattened();
+    assert_eq!(point_in_phed(&CUBE, corners, [0.5; 3]), Ok(true));
+    assert_eq!(point_in_phed(&CUBE, corners, [1.5; 3]), Ok(false));
+    assert_eq!(point_in_phed(&CUBE, &[8], [0.5; 3]), Err(Refusal::Index));
+    let long = [FACE_END; 2305];
+    assert_eq!(point_in_phed(&CUBE, &long, [0.5; 3]), Err(Refusal::Size));
+    assert_eq!(point_in_phed(&CUBE, &long[1..], [0.5; 3]), Ok(false));
+}
+
+#[test]
+fn outlines_of_the_plane_are_measured() {
+    assert_eq!(planar::signed_area2(&SQUARE), Ok(4.0));
+    assert_eq!(planar::vertex_centroid2(&SQUARE), Ok([1.0, 1.0]));
+    assert_eq!(planar::bounds2(&SQUARE), Ok([[0.0, 0.0], [2.0, 2.0]]));
+    let mut turned = SQUARE;
+    turned.reverse();
+    planar::into_ccw2(&mut turned).unwrap();
+    assert_eq!(turned, SQUARE);
+
+    assert_eq!(planar::signed_area2(&[]), Ok(0.0));
+    assert!(planar::vertex_centroid2(&[]).unwrap()[0].is_nan());
+    let [least, largest] = planar::bounds2(&[]).unwrap();
+    assert_eq!((least, largest), ([f64::INFINITY; 2], [-f64::INFINITY; 2]));
+
+    let mut many = [[0.0; 2]; 513];
+    assert_eq!(planar::signed_area2(&many), Err(Refusal::Size));
+    assert_eq!(planar::into_ccw2(&mut many), Err(Refusal::Size));
+    let wild = [[0.0, f64::NAN]];
+    assert_eq!(planar::bounds2(&wild), Err(Refusal::Number));
+}
+
+#[test]
+fn outlines_of_the_plane_overlap() {
+    let there = SQUARE.map(|[x, y]| [x + 1.0, y + 1.0]);
+    assert_eq!(planar::convex_intersection_area(&SQUARE, &there), Ok(1.0));
+    assert_eq!(planar::convex_intersection_area(&SQUARE, &[]), Ok(4.0));
+    let left = planar::clip_convex(&SQUARE, &there).unwrap().unwrap();
+    assert_eq!(planar::signed_area2(&left), Ok(1.0));
+    let away = SQUARE.map(|[x, y]| [x + 9.0, y]);
+    assert_eq!(planar::clip_convex(&SQUARE, &away), Ok(None));
+    // With no edge even a subject of two points is left.
+    let two = planar::clip_convex(&SQUARE[..2], &[]).unwrap();
+    assert_eq!(two.as_deref(), Some(&SQUARE[..2]));
+
+    let mut lists = ([[7.0; 2]; 8], [[7.0; 2]; 3]);
+    let answer = planar::clip_convex_in(&SQUARE, &there, &mut lists.0, &mut lists.1);
+    assert_eq!(answer, Err(Refusal::Room));
+    assert_eq!(lists, ([[0.0; 2]; 8], [[0.0; 2]; 3]));
+    let wild = [[0.0, f64::NAN]];
+    let mut lists = ([[7.0; 2]; 8], [[7.0; 2]; 8]);
+    let area = planar::convex_intersection_area_in(&SQUARE, &wild, &mut lists.0, &mut lists.1);
+    assert_eq!(area, Err(Refusal::Number));
+    assert_eq!(lists, ([[7.0; 2]; 8], [[7.0; 2]; 8]));
+}
+
+#[test]
+fn lists_of_space_are_measured() {
+    let face = [CUBE[0], CUBE[1], CUBE[2], CUBE[3]];
+    assert_eq!(space::newell_normal(&face), Ok([0.0, 0.0, 2.0]));
+    assert_eq!(space::vertex_centroid(&CUBE), Ok([0.5; 3]));
+    assert_eq!(space::bounds(&CUBE), Ok([[0.0; 3], [1.0; 3]]));
+    assert_eq!(space::bounds(&[]), Err(Refusal::Size));
+    assert_eq!(space::newell_normal(&[[f64::NAN; 3]]), Err(Refusal::Number));
+}
+
+#[test]
+fn fixed_shapes_are_measured() {
+    let tet = [CUBE[0], CUBE[1], CUBE[3], CUBE[4]];
+    let wedge = [CUBE[0], CUBE[1], CUBE[3], CUBE[4], CUBE[5], CUBE[7]];
+    assert_eq!(shapes::tet_volume(&tet), 1.0 / 6.0);
+    assert!((shapes::wedge_volume(&wedge) - 0.5).abs() < 1e-15);
+    assert!((shapes::hex_volume(&CUBE).abs() - 1.0).abs() < 1e-15);
+    assert!(shapes::tet_contains(&tet, [0.25; 3]));
+    assert!(shapes::wedge_contains(&wedge, [0.25, 0.25, 0.5]));
+    assert!(shapes::hex_contains(&CUBE, [0.5; 3]));
+    let outside = [0.9, 0.9, 0.9];
+    assert!(!shapes::tet_contains(&tet, outside));
+    assert!(!shapes::wedge_contains(&wedge, outside));
+    assert!(!shapes::hex_contains(&CUBE, [1.5; 3]));
+    // Any bits are taken.
+    assert!(shapes::tet_volume(&[[f64::NAN; 3]; 4]).is_nan());
+}
+
+#[test]
+fn leaves_are_asked() {
+    assert_eq!(floats::magnitude(-2.0), 2.0);
+    assert_eq!(floats::least(f64::NAN, 1.0), 1.0);
+    assert_eq!(floats::largest(2.0, 1.0), 2.0);
+    assert_eq!(floats::root(f64::from_bits(1)), 2.0_f64.powi(-537));
+    assert_eq!(floats::length(3.0, 4.0), 5.0);
+    assert_eq!(leaves::cross2([0.0, 0.0], [2.0, 0.0], [0.0, -3.0]), -6.0);
+    assert_eq!(leaves::dominant_axis([1.0, -2.0, 2.0]), 1);
+    assert_eq!(leaves::project2([1.0, 2.0, 3.0], 0), [2.0, 3.0]);
+    assert_eq!(leaves::project2([1.0, 2.0, 3.0], 7), [1.0, 2.0]);
+    let [a, b, p, q] = [[0.0, 0.0], [2.0, 0.0], [1.0, -1.0], [1.0, 3.0]];
+    assert_eq!(leaves::segment_intersection(a, b, p, q), [1.0, 0.0]);
+    assert_eq!(leaves::segment_intersection(a, b, a, b), b);
+}
+
+#[test]
+fn planes_are_compared() {
+    let up = |offset| Plane {
+        normal: [0.0, 0.0, 1.0],
+        offset,
+    };
+    let down = Plane {
+        normal: [0.0, 0.0, -1.0],
+        offset: -1.0,
+    };
+    assert!(up(1.0).same_side(&up(1.5), 0.5));
+    assert!(!up(1.0).same_side(&up(2.0), 0.5));
+    assert!(!up(1.0).same_side(&down, 0.5));
+    assert!(up(1.0).coplanar_opposite(&down, 0.0));
+    assert!(!up(2.0).coplanar_opposite(&down, 0.5));
+}
+
+#[test]
+fn a_cell_is_described() {
+    let cube = cube_at(0.0);
+    let described = cube.as_cell().describe(Shape::Convex).expect("the cube is sound");
+    let counts = [described.points, described.corners, described.faces];
+    assert_eq!(counts, [8, 24, 6]);
+    assert_eq!(described.shape, Shape::Convex);
+    let lost = Cell::new(&CUBE, &[8], &[1]);
+    assert_eq!(lost.describe(Shape::Unknown), Err(Refusal::Index));
+}

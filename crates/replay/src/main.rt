@@ -1,6 +1,6 @@
 // Replays the stored answers of the Rust: reads them from standard input, asks `geometry` and `floats` the same, and
-// prints a line a case. tests/vectors has the list to read and how it was made.
-// Rows on clipping, overlap areas and 'cubes that share a face' come with their entries; nothing is printed for them.
+// prints a line a case. tests/vectors has the list to read and how it was made. The list comes in parts of 65,536 bytes,
+// each of whole lines: empty lines fill a part up.
 ghost use Prim.Native.Nat.{_≤_};
 ghost use mathlib.Core.Path.{_≡_};
 ghost use lib.ListN.{length};
@@ -98,7 +98,7 @@ fn replay(t: Totals, line: &[u8]) -> Totals {
     }
     let end = vectors::name_end(line);
     let v = vectors::judge(&line[end..]);
-    io::write_all(1, &line[..end]);
+    io::write_all(1, &line[0..end]);
     print_verdict(v);
     Totals {
         cases: wrapping_add_u64(t.cases, 1),
@@ -107,34 +107,46 @@ fn replay(t: Totals, line: &[u8]) -> Totals {
     }
 }
 
-// Replays one line after the other.
-fn replay_all(text: &[u8])
-    requires { ⌜ length (now text) ≤ 524288 ⌝ }
+// Replays one line after the other, and returns the totals with them.
+fn replay_all(start: Totals, text: &[u8]) -> Totals
+    requires { ⌜ length (now text) ≤ 65536 ⌝ }
 {
     let n = text.len();
-    let mut t = Totals {
-        cases: 0,
-        asked: 0,
-        different: 0,
-    };
+    let mut t = start;
     let mut at = 0;
     while at < n {
         let end = vectors::line_end(text, at);
         t = replay(t, &text[at..end]);
         at = end + 1;
     }
-    print_totals(t);
+    t
 }
 
-// The text's room, from a function whose contract has its length: the list itself is then never computed with.
-fn text_room() -> [u8; 524288]
-    ensures { λ r. ⌜ 524288 ≡ length r ⌝ }
+// A part's room, from a function whose contract has its length: the list itself is then never computed with.
+fn text_room() -> [u8; 65536]
+    ensures { λ r. ⌜ 65536 ≡ length r ⌝ }
 {
-    [0; 524288]
+    [0; 65536]
 }
 
-fn main() {
+// Reads the next part of the input, which ends with a whole line, and replays it.
+fn replay_part(t: Totals) -> Totals {
     let mut text = text_room();
     let n = io::read_full(0, &mut text);
-    replay_all(&text[..n]);
+    replay_all(t, &text[0..n])
+}
+
+// The list has at most 64 parts; past its end a part is empty.
+fn main() {
+    let mut t = Totals {
+        cases: 0,
+        asked: 0,
+        different: 0,
+    };
+    let mut k: usize = 0;
+    while k < 64 {
+        t = replay_part(t);
+        k += 1;
+    }
+    print_totals(t);
 }

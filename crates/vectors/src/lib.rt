@@ -1,14 +1,13 @@
 // A stored line holds a cell, questions about it and the answers that the Rust gave; `judge` asks the same of `geometry`
 // and `floats`, and compares every number.
-// The words of a line, in hex: how many coordinates, corners and ends; these three lists; then the questions.
-// A question is: how many words follow, the entry, three arguments, the refusal (0 for none), six numbers, and for
-// `triangles` every number of the lent list afterwards.
-mod ask;
+// The words of a line, in hex: how many coordinates, corners and ends; these three lists; then the questions. A question is
+// how many words follow, and the words that the crate `asked` speaks of.
 mod text;
 
 ghost use Prim.Native.Nat.{_≤_, _<_};
 ghost use mathlib.Core.Path.{_≡_};
 ghost use lib.ListN.{length};
+use answers::words;
 
 // How many questions a line asks, and how many of them are answered otherwise than stored.
 pub struct Verdict {
@@ -35,33 +34,30 @@ pub fn name_end(s: &[u8]) -> usize
 pub fn judge(line: &[u8]) -> Verdict {
     let mut words = words_room();
     let n = text::read(line, &mut words);
-    case(&words[..n])
+    case(&words[0..n])
 }
 
-// The stored cell, and the verdict on the questions about it.
+// The words of the cell's three lists, and the verdict on the questions behind them.
 fn case(ws: &[u64]) -> Verdict {
-    let nc = ask::capped(ws, 0, 1280);
-    let nk = ask::capped(ws, 1, 4096);
-    let ne = ask::capped(ws, 2, 512);
-    let mut coords = coords_room();
-    let mut corners = corners_room();
-    let mut ends = ends_room();
-    put_numbers(ask::part(ws, 3, nc), &mut coords);
-    put_corners(ask::part(ws, 3 + nc, nk), &mut corners);
-    put_corners(ask::part(ws, 3 + nc + nk, ne), &mut ends);
-    let rest = ask::part(ws, 3 + nc + nk + ne, 8192);
-    questions(rest, &coords[..nc], &corners[..nk], &ends[..ne])
+    let nc = words::capped(ws, 0, 8192);
+    let nk = words::capped(ws, 1, 8192);
+    let ne = words::capped(ws, 2, 8192);
+    let coords = words::part(ws, 3, nc);
+    let corners = words::part(ws, 3 + nc, nk);
+    let ends = words::part(ws, 3 + nc + nk, ne);
+    let rest = words::part(ws, 3 + nc + nk + ne, 8192);
+    questions(coords, corners, ends, rest)
 }
 
 // Asks one question after the other.
-fn questions(ws: &[u64], coords: &[f64], corners: &[u32], ends: &[u32]) -> Verdict {
+fn questions(coords: &[u64], corners: &[u64], ends: &[u64], ws: &[u64]) -> Verdict {
     let n = ws.len();
     let mut at = 0;
     let mut asked = 0;
     let mut different = 0;
     while at < n {
         let end = question_end(ws, at);
-        if !ask::agrees(&ws[at + 1..end], coords, corners, ends) {
+        if !agrees(coords, corners, ends, &ws[at + 1..end]) {
             different += 1;
         }
         asked += 1;
@@ -70,36 +66,58 @@ fn questions(ws: &[u64], coords: &[f64], corners: &[u32], ends: &[u32]) -> Verdi
     Verdict { asked, different }
 }
 
+// Whether a question is answered as stored. The cell's lists are made anew for each, since an entry may write into them.
+fn agrees(coords: &[u64], corners: &[u64], ends: &[u64], q: &[u64]) -> bool {
+    let mut xs = coords_room();
+    let mut cs = corners_room();
+    let mut es = ends_room();
+    let nc = put_numbers(coords, &mut xs);
+    let nk = put_corners(corners, &mut cs);
+    let ne = put_corners(ends, &mut es);
+    asked::agrees(q, &mut xs[0..nc], &mut cs[0..nk], &es[0..ne])
+}
+
 // Where the question that begins at `at` ends; one that is cut off ends with the line.
 fn question_end(ws: &[u64], at: usize) -> usize
     requires { ⌜ at < length (now ws) ⌝ }
     ensures { λ r. ⌜ (at < r) × (r ≤ length (now (ws .entry))) ⌝ }
 {
     let room = ws.len() - at - 1;
-    let size = ask::capped(ws, at, room);
+    let size = words::capped(ws, at, room);
     at + 1 + size
 }
 
-// The numbers with these patterns, at the front of a list.
-fn put_numbers(ws: &[u64], out: &mut [f64]) {
-    let n = ws.len();
-    let m = out.len();
+// The smaller of two counts.
+fn smaller(a: usize, b: usize) -> usize
+    ensures { λ r. ⌜ (r ≤ a) × (r ≤ b) ⌝ }
+{
+    if a < b { a } else { b }
+}
+
+// The numbers with these patterns, at the front of a list, and how many there was room for.
+fn put_numbers(ws: &[u64], out: &mut [f64]) -> usize
+    ensures { λ r. ⌜ r ≤ length (now (out .entry)) ⌝ }
+{
+    let n = smaller(ws.len(), out.len());
     let mut i = 0;
-    while i < n && i < m {
+    while i < n {
         out[i] = floats::of_pattern(ws[i]);
         i += 1;
     }
+    n
 }
 
-// The words, cut to 32 bits, at the front of a list.
-fn put_corners(ws: &[u64], out: &mut [u32]) {
-    let n = ws.len();
-    let m = out.len();
+// The words, cut to 32 bits, at the front of a list, and how many there was room for.
+fn put_corners(ws: &[u64], out: &mut [u32]) -> usize
+    ensures { λ r. ⌜ r ≤ length (now (out .entry)) ⌝ }
+{
+    let n = smaller(ws.len(), out.len());
     let mut i = 0;
-    while i < n && i < m {
-        out[i] = ask::low(ws[i]);
+    while i < n {
+        out[i] = words::low(ws[i]);
         i += 1;
     }
+    n
 }
 
 // The lists of a line, each from a function whose contract has its length: the list itself is then never computed with.

@@ -9,7 +9,7 @@ pub replay-all-spec : {M : Type 1} → statement M
 replay-all-spec =
     tie.close
     (tie.spec
-    (λ text n t₀ at₀ t at. (n ≡ length text) × (n ≤ 524288))
+    (λ text n t₀ at₀ t at. (n ≡ length text) × (n ≤ 65536))
     (λ text n t₀ at₀ t at. n - at)
     (λ c. search needs)
     (λ c κs. search needs)
@@ -20,5 +20,4 @@ replay-all-spec =
     (λ c. search needs)
     (λ c. search needs)
     (λ c. search needs)
-    (λ c κs. search needs)
     (λ c. search needs))

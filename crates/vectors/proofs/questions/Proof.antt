@@ -11,8 +11,8 @@ pub questions-spec : {M : Type 1} → statement M
 questions-spec =
     tie.close
     (tie.spec
-    (λ ws coords corners ends n at₀ asked₀ different₀ at asked different. (n ≡ length ws) × (at ≤ n) × (asked ≤ at) × (different ≤ asked))
-    (λ ws coords corners ends n at₀ asked₀ different₀ at asked different. n - at)
+    (λ coords corners ends ws n at₀ asked₀ different₀ at asked different. (n ≡ length ws) × (at ≤ n) × (asked ≤ at) × (different ≤ asked))
+    (λ coords corners ends ws n at₀ asked₀ different₀ at asked different. n - at)
     (λ c. search needs)
     (λ c κs. search needs)
     (λ c. search needs)

@@ -1,0 +1,76 @@
+// The words of a question and the numbers of a line, by their places.
+ghost use Prim.Native.Nat.{_≤_, _<_};
+
+// The word at a place; 0 past the end.
+pub fn word(ws: &[u64], at: usize) -> u64 {
+    if at < ws.len() { ws[at] } else { 0 }
+}
+
+// The word at a place, or `most` where it is larger.
+pub fn capped(ws: &[u64], at: usize, most: usize) -> usize
+    ensures { λ r. ⌜ r ≤ most ⌝ }
+{
+    let w = word(ws, at) as usize;
+    if w < most { w } else { most }
+}
+
+// The lowest 32 bits.
+pub fn low(w: u64) -> u32 {
+    (w % 4294967296) as u32
+}
+
+// The words from a place on, at most n of them, as far as there are any.
+pub fn part(ws: &[u64], at: usize, n: usize) -> &[u64] {
+    let all = ws.len();
+    if all < at {
+        return &ws[..0];
+    }
+    if all - at < n {
+        &ws[at..]
+    } else {
+        &ws[at..at + n]
+    }
+}
+
+// The number whose pattern is the word at a place.
+pub fn argument(q: &[u64], at: usize) -> f64 {
+    floats::of_pattern(word(q, at))
+}
+
+// The first three arguments as a point.
+pub fn query(q: &[u64]) -> [f64; 3] {
+    [argument(q, 1), argument(q, 2), argument(q, 3)]
+}
+
+// The numbers from a place on, as far as there are any.
+pub fn from(xs: &[f64], at: usize) -> &[f64] {
+    if xs.len() < at { &xs[..0] } else { &xs[at..] }
+}
+
+// The number at a place; 0 past the end.
+pub fn number(xs: &[f64], at: usize) -> f64 {
+    if at < xs.len() { xs[at] } else { 0.0 }
+}
+
+// The two, three or four numbers at a place as a point or a plane.
+pub fn pair(xs: &[f64], at: usize) -> [f64; 2]
+    requires { ⌜ at < 64 ⌝ }
+{
+    [number(xs, at), number(xs, at + 1)]
+}
+
+pub fn point(xs: &[f64], at: usize) -> [f64; 3]
+    requires { ⌜ at < 64 ⌝ }
+{
+    [number(xs, at), number(xs, at + 1), number(xs, at + 2)]
+}
+
+pub fn plane(xs: &[f64], at: usize) -> planes::Plane
+    requires { ⌜ at < 64 ⌝ }
+{
+    let n = point(xs, at);
+    planes::Plane {
+        n,
+        d: number(xs, at + 3),
+    }
+}

@@ -1,0 +1,331 @@
+"""Questions about a cell or a list of points."""
+import math
+
+from asking import Case, MARK, SHAPES, bits, cell_words, flat, hexes, in_parts, points, read_points, whole
+from cells import CUBE, HEX8, SEVEN, TETRA, box, cell_of, damage, prism, queries, torn
+from table import LIMIT, faces, faces_refusal, list_refusal, phed_refusal, plane_refusal, refusal, survey_refusal
+
+
+def closed(cell):
+    """Whether, for all i and j that differ, sides i to j are as many as j to i."""
+    balance = {}
+    for f in faces(cell):
+        for i, j in zip(f, f[1:] + f[:1]):
+            balance[i, j] = balance.get((i, j), 0) + 1
+            balance[j, i] = balance.get((j, i), 0) - 1
+    return all(n == 0 for (i, j), n in balance.items() if i != j)
+
+
+def of_value(patterns):
+    """Rust leaves the sign of a least or greatest zero open, so there a zero is stored as +0."""
+    return [0 if b == 1 << 63 else b for b in patterns]
+
+
+class CellCase(Case):
+    def measure(self, entry):
+        """A number, a point or a box of the cell."""
+        why = refusal(self.cell)
+        got = [] if why else self.oracle.patterns(entry, cell_words(self.cell))
+        self.put(entry, [], why, of_value(got) if entry in ('bounds', 'scale') else got)
+
+    def is_closed(self):
+        why = refusal(self.cell)
+        self.put('closed', [], why, [] if why else [int(closed(self.cell))])
+
+    def holds(self, p):
+        return self.oracle.yes('contains', f'{cell_words(self.cell)} {hexes(p)}')
+
+    def contains(self, p):
+        why = refusal(self.cell, query=p)
+        self.put('contains', [bits(x) for x in p], why, [] if why else [self.holds(p)], f' {p}')
+
+    def in_phed(self, p):
+        coords, entries, _ = self.cell
+        why = phed_refusal(coords, entries, p)
+        got = [] if why else [self.oracle.yes('point_in_phed', f'{hexes(p)} {points(coords)} {whole(entries)}')]
+        self.put('point_in_phed', [bits(x) for x in p], why, got, f' {p}')
+
+    def surveyed(self, ps):
+        """What the cell report says, with these query points."""
+        cut = [(len(f), self.cut(f)[0]) for f in faces(self.cell)]
+        return [sum(t for _, t in cut), int(closed(self.cell)), sum(t < n - 2 for n, t in cut if n >= 3),
+                *self.oracle.patterns('volume', cell_words(self.cell)), sum(self.holds(p) for p in ps)]
+
+    def survey(self, p):
+        why = refusal(self.cell, query=p)
+        self.put('survey_cell', [bits(x) for x in p], why, [] if why else self.surveyed([p]), f' {p}')
+
+    def point_lists(self):
+        """The vertices as a list of points."""
+        why, words = list_refusal(self.cell[0]), points(self.cell[0])
+        names = {'newell_normal': 'newell_normal', 'vertex_centroid': 'vertex_centroid3', 'bounds_of_points': 'bounds_iter3'}
+        for entry, name in names.items():
+            got = [] if why else self.oracle.patterns(name, words)
+            self.put(entry, [], why, of_value(got) if entry == 'bounds_of_points' else got)
+
+    def outline(self):
+        """The coordinates as a list of points of the plane."""
+        coords = self.cell[0]
+        why, words = plane_refusal(coords), points(coords, 2)
+        for entry, name in {'signed_area2': 'signed_area2', 'vertex_centroid2': 'vertex_centroid2', 'bounds2': 'bounds_iter2'}.items():
+            got = [] if why else self.oracle.patterns(name, words)
+            self.put(entry, [], why, of_value(got) if entry == 'bounds2' else got)
+        after = coords if why else flat(read_points(self.oracle.ask('into_ccw2', words)[1:], 2))
+        self.put('into_ccw2', [], why, [], lent=[[bits(x) for x in after]])
+
+    def cut(self, face):
+        return [int(w) for w in self.oracle.ask('ear_clip_triangles', f'{points(self.cell[0])} {whole(face)}')]
+
+    def triangles(self, face, room=None):
+        """The triangles of a face, in a list of some places more than they need unless the room is given."""
+        sound = face < len(self.cell[2]) and not refusal(self.cell)
+        n = len(faces(self.cell)[face]) if sound else 3
+        room = max(n - 2, 0) + 1 if room is None else room
+        why = refusal(self.cell, face=face, room=room)
+        count, *lent = [0] if why else self.cut(faces(self.cell)[face])
+        lent += [MARK] * (3 * room - len(lent))
+        self.put('triangles', [face, room], why, [count], f' face {face}, {room} places', [lent])
+
+    def shape(self):
+        """The description, and whether the cell is convex, for each thing that may be known of it."""
+        coords, corners, ends = self.cell
+        why = refusal(self.cell)
+        for k, known in enumerate(SHAPES):
+            self.put('describe', [k], why, [len(coords) // 3, len(corners), len(ends), k], f' {known}')
+            got = [] if why else [self.oracle.yes('is_convex', f'{cell_words(self.cell)} {known}')]
+            self.put('is_convex', [k], why, got, f' {known}')
+
+    def turning(self):
+        """The corners after every face is turned outward."""
+        why = faces_refusal(self.cell)
+        after = self.cell[1] if why else [int(w) for w in self.oracle.ask('into_ccw', cell_words(self.cell))[1:]]
+        self.put('into_ccw', [], why, [], lent=[after])
+
+    def plane(self, face):
+        why = faces_refusal(self.cell, face)
+        words = '' if why else f'{points(self.cell[0])} {whole(faces(self.cell)[face])}'
+        got = [] if why else self.oracle.patterns('plane_of_face', words, 'ruled')
+        self.put('plane_of_face', [face], why, got, f' face {face}')
+
+    def all(self, ps):
+        for entry in ('volume', 'centroid', 'geometric_centroid', 'bounds', 'scale'):
+            self.measure(entry)
+        self.is_closed()
+        for p in ps:
+            self.contains(p)
+        self.survey(ps[0])
+        for k in self.faces_asked():
+            self.triangles(k)
+
+    def shape_and_planes(self):
+        self.shape()
+        self.turning()
+        for k in self.faces_asked():
+            self.plane(k)
+
+    def faces_asked(self):
+        return range(len(self.cell[2]) if not refusal(self.cell) else 1)
+
+
+class SurveyCase(Case):
+    """A cell and its query points, which stand behind the vertices."""
+
+    def __init__(self, oracle, name, cell, asked, remark=''):
+        coords, corners, ends = cell
+        super().__init__(oracle, name, (coords + asked, corners, ends), remark, {'vertices': coords, 'query points': asked})
+        why = survey_refusal(cell, asked)
+        got = [] if why else CellCase(oracle, name, cell).surveyed(in_parts(asked, 3))
+        self.put('survey_of_queries', [len(coords)], why, got, f' of the first {len(coords)} numbers with the rest')
+
+
+# The rows of document 01's 'Worked by hand' on cells. The Rust's answer must be the paper's.
+
+MANY = [(k % 7, k % 11, k % 13) for k in range(257)]
+OVER = math.nextafter(LIMIT, math.inf)
+
+
+def worked(oracle):
+    def case(name, cell, remark):
+        c = CellCase(oracle, name, cell, remark)
+        out.append(c)
+        return c
+
+    out = []
+    cube = cell_of(CUBE, HEX8)
+    for name, cell, room, said in (
+            ('cube_face', cube, 4, [1, 0, 3, 3, 2, 1]),
+            ('seven_corners', cell_of(SEVEN, [list(range(7))]), 6, [6, 0, 1, 6, 1, 2, 2, 3, 4]),
+            ('two_corners', cell_of(CUBE, [[4, 6]]), 2, []),
+            ('three_corners', cell_of(CUBE, [[4, 6, 1]]), 2, [4, 6, 1])):
+        c = case(name, cell, f'{len(said) // 3} triangles')
+        c.triangles(0, room)
+        c.said(0, [len(said) // 3], said + [MARK] * (3 * room - len(said)))
+    for name, p, said in (('cube_x_0', (0.0, 0.5, 0.5), 1), ('cube_x_1', (1.0, 0.5, 0.5), 0), ('cube_y_1', (0.5, 1.0, 0.5), 0)):
+        c = case(name, cube, 'contained' if said else 'not contained')
+        c.contains(p)
+        c.said(0, [said])
+    reaching = [cell_of([(top if x else x, y, z) for x, y, z in CUBE], HEX8) for top in (LIMIT, OVER, -LIMIT, -OVER)]
+    for name, cell, why in (
+            ('vertices_256', cell_of(MANY[:256], TETRA), 0), ('vertices_257', cell_of(MANY, TETRA), 1),
+            ('number_2_40', reaching[0], 0), ('number_next', reaching[1], 2),
+            ('number_minus_2_40', reaching[2], 0), ('number_minus_next', reaching[3], 2)):
+        c = case(name, cell, f'refused {why}' if why else 'passes')
+        c.all([(0.25, 0.5, 0.5)])
+        c.said(why)
+    for name, q, why in (('query_2_40', LIMIT, 0), ('query_next', OVER, 2), ('query_minus_next', -OVER, 2),
+                         ('query_nan', math.nan, 2), ('query_infinite', math.inf, 2)):
+        c = case(name, cube, f'refused {why}' if why else 'passes')
+        c.contains((q, 0.5, 0.5))
+        c.contains((0.5, 0.5, q))
+        c.said(why)
+    stored_otherwise = cell_of(CUBE, [[1, 2, 3, 0], *HEX8[1:]])
+    for name, cell, is_closed, volume in (('report_line', cube, 1, 0x3FF0000000000000), ('report_line_not_closed', stored_otherwise, 0, 0x3FE5555555555555)):
+        c = case(name, cell, "as document 01's cell report prints it")
+        c.survey((0.5, 0.5, 0.5))
+        c.said(0, [12, is_closed, 0, volume, 1])
+    return out
+
+
+def sampled(oracle, rng):
+    out = []
+    for kind, make, count in (('box', box, 60), ('prism', prism, 70), ('torn', torn, 70)):
+        for k in range(count):
+            vertices, face_list = make(rng)
+            c = CellCase(oracle, f'{kind}_{k + 1}', cell_of(vertices, face_list))
+            c.all(queries(rng, vertices))
+            out.append(c)
+    return out
+
+
+def phed(oracle, rng):
+    """The same cells as one list in which the mark ends a face, sound and damaged."""
+    out = []
+    for k in range(20):
+        vertices, face_list = (box, prism, torn)[k % 3](rng)
+        entries = [c for f in face_list for c in f + [MARK]]
+        if k % 4 == 1:
+            entries = entries[:-1]
+        if k % 5 == 4:
+            entries[rng.randrange(len(entries))] = len(vertices)
+        c = CellCase(oracle, f'phed_{k + 1}', (flat(vertices), entries, []))
+        for p in queries(rng, vertices):
+            c.in_phed(p)
+        c.point_lists()
+        out.append(c)
+    for n in (2304, 2305):
+        c = CellCase(oracle, f'phed_entries_{n}', (flat(CUBE), [0] * (n - 1) + [MARK], []), 'its one limit is 2,304 entries')
+        c.in_phed((0.5, 0.5, 0.5))
+        out.append(c)
+    return out
+
+
+def list_limits(oracle):
+    """Lists of points, with marked faces and a query point: each limit at it and past it, and the order of the refusals."""
+    cube, marked, middle = flat(CUBE), [c for f in HEX8 for c in f + [MARK]], (0.5, 0.5, 0.5)
+    out = []
+    for name, coords, entries, p in (
+            ('points_none', [], [], middle), ('points_in_threes', cube[:-1], marked, middle),
+            ('points_256', flat(MANY[:256]), marked, middle), ('points_257', flat(MANY), marked, middle),
+            ('points_2_40', [LIMIT, *cube[1:]], marked, middle), ('points_next', [OVER, *cube[1:]], marked, middle),
+            ('points_minus_next', [*cube[:-1], -OVER], marked, middle), ('points_nan', [*cube[:-1], math.nan], marked, middle),
+            ('points_infinite', [math.inf, *cube[1:]], marked, middle), ('points_size_before_number', [math.nan] * 2, [9], middle),
+            ('points_number_before_index', [math.nan] * 3, [9], middle), ('points_query_2_40', cube, marked, (0.5, LIMIT, 0.5)),
+            ('points_query_next', cube, marked, (0.5, OVER, 0.5)), ('points_query_nan', cube, [9], (0.5, 0.5, math.nan)),
+            ('points_entry', cube, [*marked, 8], middle), ('points_marks_only', cube, [MARK, MARK], middle)):
+        c = CellCase(oracle, name, (coords, entries, []))
+        c.in_phed(p)
+        c.point_lists()
+        out.append(c)
+    return out
+
+
+def surveys(oracle, rng):
+    """Many query points, and the refusals of their list."""
+    cube, middle = cell_of(CUBE, HEX8), [0.5, 0.5, 0.5]
+    wild_cell, falling, stray = (cube[0][:-1] + [math.inf], *cube[1:]), (*cube[:2], cube[2][:-1]), (cube[0], [8, *cube[1][1:]], cube[2])
+    rows = [('queries_none', cube, []), ('queries_256', cube, middle * 256), ('queries_257', cube, middle * 257), ('queries_in_threes', cube, middle[:2]),
+            ('queries_size_first', wild_cell, middle + middle[:1]), ('queries_number', cube, middle + [0.5, math.nan, 0.5]),
+            ('queries_2_40', cube, [*middle, LIMIT, 0.5, 0.5]), ('queries_next', cube, [*middle, OVER, 0.5, 0.5]), ('queries_before_ends', falling, [math.inf, 0.5, 0.5]),
+            ('queries_ends', falling, middle), ('queries_index', stray, middle)]
+    for k in range(12):
+        vertices, face_list = (box, prism, torn)[k % 3](rng)
+        rows.append((f'queries_{k + 1}', cell_of(vertices, face_list), flat(p for _ in range(5) for p in queries(rng, vertices))))
+    return [SurveyCase(oracle, *row) for row in rows]
+
+
+def outlines(oracle, rng):
+    """Lists of points of the plane."""
+    lists = [[], [1.0, 2.0], [1.0], [math.nan, 0.0], [0.0, 2.0 * LIMIT], [LIMIT, -LIMIT, 0.0, LIMIT], [0.0] * 1024, [0.0] * 1026]
+    lists += [[rng.uniform(-9, 9) for _ in range(2 * rng.randint(2, 9))] for _ in range(12)]
+    out = []
+    for k, coords in enumerate(lists):
+        c = CellCase(oracle, f'outline_{k + 1}', (coords, [], []))
+        c.outline()
+        out.append(c)
+    return out
+
+
+def limits(oracle):
+    """Each limit of the table, at it and past it."""
+    cube = cell_of(CUBE, HEX8)
+    rows = [
+        ('no_vertex', ([], [], []), 'refused 1'),
+        ('no_face', (cube[0], [], []), 'passes'),
+        ('faces_256', (cube[0], cube[1], cube[2] + [24] * 250), 'passes'),
+        ('faces_257', (cube[0], cube[1], cube[2] + [24] * 251), 'refused 1'),
+        ('corners_2048', (cube[0], cube[1] + [0] * 2024, cube[2][:5] + [2048]), 'passes: a face of 2,028 corners'),
+        ('corners_2049', (cube[0], cube[1] + [0] * 2025, cube[2][:5] + [2049]), 'refused 1'),
+        ('size_before_number', ([math.nan] * 2, [9], [3]), 'refused 1'),
+        ('number_before_ends', ([math.nan] * 3, [9], [3]), 'refused 2'),
+        ('ends_before_index', ([0.0] * 3, [9], [3]), 'refused 3'),
+        ('index', ([0.0] * 3, [9], [1]), 'refused 4'),
+    ]
+    out = []
+    for name, cell, remark in rows:
+        c = CellCase(oracle, name, cell, remark)
+        for entry in ('volume', 'centroid', 'geometric_centroid', 'bounds', 'scale'):
+            c.measure(entry)
+        c.is_closed()
+        c.contains((0.5, 0.5, 0.5))
+        c.contains((0.5, math.nan, 0.5))
+        c.survey((0.5, 0.5, 0.5))
+        c.survey((0.5, math.nan, 0.5))
+        c.triangles(0)
+        c.shape()
+        c.turning()
+        c.plane(0)
+        out.append(c)
+    room = CellCase(oracle, 'room', cube, 'a face number past the last is refused 4, a list of too few places 6')
+    for face, places in ((0, 0), (0, 1), (0, 2), (5, 1), (6, 0), (6, 9), (MARK, 2)):
+        room.triangles(face, places)
+    out.append(room)
+    return out
+
+
+def damaged(oracle, rng):
+    out = limits(oracle)
+    for k in range(50):
+        vertices, face_list = (box, prism)[k % 2](rng)
+        c = CellCase(oracle, f'damaged_{k + 1}', damage(rng, cell_of(vertices, face_list)))
+        c.all(queries(rng, vertices)[:1])
+        out.append(c)
+    return out
+
+
+def shaped(oracle, rng):
+    """Convexity, outward turning and the planes of faces: sound cells, torn ones, damaged ones, and planes of no length."""
+    cube = cell_of(CUBE, HEX8)
+    rows = [('cube_shape', cube), ('cube_turned', cell_of(CUBE, [f[::-1] for f in HEX8])),
+            ('three_vertices', cell_of(CUBE[:3], [[0, 1, 2], [2, 1, 0]])), ('face_of_none', (cube[0], cube[1], [0, *cube[2]])),
+            ('face_number', (cube[0], cube[1], [24])), ('index_before_empty', (cube[0], [8, *cube[1][1:]], [0, *cube[2]])),
+            ('corners_in_one_point', cell_of(CUBE, [[1, 1, 1], [2], [0, 6]])),
+            ('squares_that_vanish', cell_of([(x * 2.0 ** -300, y * 2.0 ** -290, z) for x, y, z in CUBE], HEX8))]
+    rows += [(f'shape_{k + 1}', cell_of(*make(rng))) for k, make in enumerate((box, prism, torn) * 6)]
+    rows += [(f'shape_damaged_{k + 1}', damage(rng, cell_of(*box(rng)))) for k in range(6)]
+    out = []
+    for name, cell in rows:
+        c = CellCase(oracle, name, cell)
+        c.shape_and_planes()
+        c.plane(len(cell[2]))
+        out.append(c)
+    return out

@@ -1,0 +1,122 @@
+"""Questions to the leaves and the fixed shapes, which take any bits: the numbers stand in the line's coordinates."""
+import math
+
+from asking import Case, bits, flat, hexes, number
+from cells import CUBE, moved, queries, turned
+
+# How many numbers a leaf takes.
+TAKES = {'cross2': 6, 'dominant_axis': 3, 'segment_intersection': 8, 'segment_plane_intersection': 8, 'plane_same_side': 9,
+         'plane_coplanar_opposite': 9}
+
+# A solid one of each shape.
+SHAPES = {'tet': [CUBE[k] for k in (0, 1, 3, 4)], 'wedge': [CUBE[k] for k in (0, 1, 3, 4, 5, 7)], 'hex': CUBE}
+
+STRANGE = [0.0, -0.0, 1.0, -1.0, math.inf, -math.inf, math.nan, number(1), 2.0 ** 1023, -2.0 ** 1023, 2.0 ** -537]
+
+LARGEST = math.nextafter(math.inf, 0.0)
+
+
+class LeafCase(Case):
+    def __init__(self, oracle, name, numbers, remark=''):
+        super().__init__(oracle, name, (numbers, [], []), remark, {'numbers': numbers})
+
+    def leaf(self, entry, at=0):
+        """A leaf whose arguments start at a place of the line's numbers."""
+        words = hexes(self.cell[0][at:at + TAKES[entry]])
+        if entry == 'dominant_axis':
+            got = [int(self.oracle.ask(entry, words)[0])]
+        elif entry.startswith('plane'):
+            got = [self.oracle.yes(entry, words, 'ruled')]
+        else:
+            got = self.oracle.patterns(entry, words)
+        self.put(entry, [at], 0, got, f' from place {at}')
+
+    def project(self, axis, at=0):
+        got = self.oracle.patterns('project2', f'{hexes(self.cell[0][at:at + 3])} {axis}')
+        self.put('project2', [at, axis], 0, got, f' axis {axis} from place {at}')
+
+    def root(self, x):
+        """The correctly rounded root of IEEE 754, which decides here."""
+        self.put('root', [bits(x)], 0, [bits(math.nan if x < 0.0 else math.sqrt(x))], f' {bits(x):016X}')
+
+    def leaves(self):
+        """Every leaf at every place from which there are numbers enough."""
+        n = len(self.cell[0])
+        for entry, takes in TAKES.items():
+            for at in range(0, n - takes + 1, 2):
+                self.leaf(entry, at)
+        for axis in range(4):
+            self.project(axis)
+
+    def shape(self, kind, ps):
+        corners = hexes(self.cell[0])
+        self.put(f'{kind}_volume', [], 0, self.oracle.patterns(f'{kind}_volume', corners))
+        for p in ps:
+            got = self.oracle.yes(f'{kind}_contains', f'{hexes(p)} {corners}')
+            self.put(f'{kind}_contains', [bits(x) for x in p], 0, [got], f' {p}')
+
+
+def worked(oracle):
+    """The root, and the crossing that lies off its segment: t = -1.5."""
+    least = LeafCase(oracle, 'root_least', [], 'the root of the least positive f64 is 2^-537')
+    least.root(number(1))
+    least.said(0, [bits(2.0 ** -537)])
+    c = LeafCase(oracle, 'crossing_off_its_segment', [0.75, 0.0, 0.0, 1.25, 4.0, 0.0, 0.75, 1.25], 'the point (0, -6, 0)')
+    c.leaf('segment_plane_intersection')
+    c.said(0, [bits(0.0), bits(-6.0), bits(0.0)])
+    return [least, c]
+
+
+def leaves(oracle, rng):
+    """Random numbers, small whole numbers with their ties and zero denominators, and strange ones."""
+    rows = [('leaves', [rng.uniform(-9, 9) for _ in range(12)]) for _ in range(6)]
+    rows += [('leaves_whole', [float(rng.randint(-2, 2)) for _ in range(14)]) for _ in range(8)]
+    rows += [('leaves_strange', [rng.choice(STRANGE) for _ in range(14)]) for _ in range(8)]
+    rows += [('leaves_parallel', [0.0, 0.0, 2.0, 1.0, 5.0, 5.0, 9.0, 7.0])]
+    out = []
+    for k, (name, numbers) in enumerate(rows):
+        c = LeafCase(oracle, f'{name}_{k + 1}', numbers)
+        c.leaves()
+        out.append(c)
+    return out
+
+
+def roots(oracle, rng):
+    """Roots of strange numbers, of every magnitude, and of squares and their neighbours."""
+    c = LeafCase(oracle, 'roots', [])
+    near = [(k * k, math.nextafter(k * k, 0.0), math.nextafter(k * k, math.inf)) for k in (rng.uniform(1.0, 2.0 ** 26) for _ in range(20))]
+    for x in [*STRANGE, 2.0, 0.5, LARGEST, math.nextafter(2.0 ** -1022, 0.0), *(number(rng.getrandbits(63)) for _ in range(60)), *flat(near)]:
+        c.root(x)
+    return [c]
+
+
+def plane_pairs(oracle, rng):
+    """Planes that are nearly the same, from either side, about the tolerances of the two tests."""
+    out = []
+    for k in range(16):
+        (normal,) = turned(rng, [(0.0, 0.0, 1.0)])
+        side, tilt, d = rng.choice((1.0, -1.0)), rng.choice((0.0, 1e-11, 5e-11, 1e-10, 2e-10, 1e-6)), rng.uniform(-2, 2)
+        tol = rng.choice((0.0, 1e-4, math.inf, math.nan))
+        other = [side * x * (1.0 - tilt) for x in normal] + [side * d + rng.choice((0.0, tol, -tol, 2 * tol))]
+        c = LeafCase(oracle, f'plane_pair_{k + 1}', [*normal, d, *other, tol])
+        for entry in ('plane_same_side', 'plane_coplanar_opposite'):
+            c.leaf(entry)
+        out.append(c)
+    return out
+
+
+def shapes(oracle, rng):
+    out = []
+    for kind, solid in SHAPES.items():
+        for k in range(8):
+            corners = [tuple(p) for p in moved(rng, solid)]
+            if k == 5:
+                corners = corners[::-1]
+            if k == 6:
+                corners = [tuple(rng.choice(STRANGE) for _ in range(3)) for _ in solid]
+            if k == 7:
+                corners = [tuple(float(x) for x in p) for p in solid]
+            c = LeafCase(oracle, f'{kind}_{k + 1}', flat(corners))
+            c.shape(kind, [*queries(rng, corners), (0.0, 0.25, 0.25), (rng.choice(STRANGE), 0.5, 0.25)])
+            out.append(c)
+    return out

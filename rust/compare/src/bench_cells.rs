@@ -1,56 +1,239 @@
-//! `compare bench-cells`: how long the port and the Rust take for a cell.
-//!
-//! The Rust's own form of the cell is made once, outside the timed rounds; the port checks the cell
-//! in every call.
+//! Rows of `compare bench`: the entries on a cell, and the fixed shapes.
 
 use std::hint::black_box;
 
 use oracle::Shape;
-use oracle::plain::polyhedron;
+use oracle::plain::{self as rust, Polyhedron};
 
-use crate::bench::print_row;
+use crate::bench::Table;
+use crate::bench_lists::in_space;
 use crate::cells::{self, Cell};
 use crate::compare_cells::is_closed;
-use crate::{Outcome, bench, bench_cut, faces, ours};
+use crate::limits::FACE_END;
+use crate::{faces, ours};
 
 /// Corners of the faces that are cut.
-const SIZES: [usize; 6] = [3, 4, 8, 16, 64, 256];
+const FACE_SIZES: [usize; 3] = [4, 64, 256];
 
-/// A point inside both cells, whose ray meets no vertex.
+/// A point inside all cells and shapes, whose ray meets no vertex.
 const INSIDE: [f64; 3] = [0.25, 0.31, 0.37];
 
-pub fn run(words: &[String]) -> Result<Outcome, String> {
-    bench::run(words, "entry", || {
-        print_rows("cube", &cells::unit_cube());
-        print_rows("60 faces", &cells::sphere(6, 10));
-        for size in SIZES {
-            bench_cut::print_row(&format!("triangles, {size} corners"), &faces::regular(size));
-        }
-    })
+/// A cube, a cell of 60 faces, and one of as many faces as may be.
+pub fn all_cells() -> [Cell; 3] {
+    [
+        cells::unit_cube(),
+        cells::sphere(6, 10),
+        cells::sphere(16, 16),
+    ]
 }
 
-fn print_rows(name: &str, cell: &Cell) {
-    let rust = polyhedron(cell.for_the_rust(), Shape::Unknown);
-    let (mut one, mut three, mut yes) = ([0.0], [0.0; 3], [0]);
-    print_row(
-        &format!("volume, {name}"),
-        || ours::volume(black_box(cell), &mut one),
-        || black_box(&rust).volume(),
+/// The rows of one entry, one a cell: what the port is asked, and what the Rust is.
+fn add<A, B>(
+    table: &mut Table,
+    entry: &'static str,
+    mut ours: impl FnMut(&Cell) -> A,
+    rust: impl Fn(&Polyhedron) -> B,
+) {
+    for cell in &all_cells() {
+        let by_rust = own_form(cell);
+        table.add_cell(
+            entry,
+            cell.corners.len(),
+            || ours(black_box(cell)),
+            || rust(black_box(&by_rust)),
+            || rust(&own_form(black_box(cell))),
+        );
+    }
+}
+
+/// A cell in the Rust's own form.
+fn own_form(cell: &Cell) -> Polyhedron {
+    rust::polyhedron(cell.for_the_rust(), Shape::Unknown)
+}
+
+pub fn add_rows(table: &mut Table) {
+    let (mut out, mut counts) = ([0.0; 6], [0; 4]);
+    add(
+        table,
+        "volume",
+        |cell| ours::volume(cell, &mut out),
+        Polyhedron::volume,
     );
-    print_row(
-        &format!("contains, {name}"),
-        || ours::contains(black_box(cell), INSIDE, &mut yes),
-        || black_box(&rust).contains(&INSIDE),
+    add(
+        table,
+        "centroid",
+        |cell| ours::centroid(cell, &mut out),
+        Polyhedron::centroid,
     );
-    print_row(
-        &format!("geometric_centroid, {name}"),
-        || ours::geometric_centroid(black_box(cell), &mut three),
-        || black_box(&rust).geometric_centroid(),
+    add(
+        table,
+        "geometric_centroid",
+        |cell| ours::geometric_centroid(cell, &mut out),
+        Polyhedron::geometric_centroid,
     );
-    // The Rust has no such test: its column is the plain count in a table of sides.
-    print_row(
-        &format!("closed, {name}"),
-        || ours::closed(black_box(cell), &mut yes),
-        || is_closed(black_box(cell)),
+    add(
+        table,
+        "bounds",
+        |cell| ours::bounds(cell, &mut out),
+        Polyhedron::bounds,
     );
+    add(
+        table,
+        "scale",
+        |cell| ours::scale(cell, &mut out),
+        Polyhedron::scale,
+    );
+    add(
+        table,
+        "contains",
+        |cell| ours::contains(cell, INSIDE, &mut counts),
+        |cell| cell.contains(&INSIDE),
+    );
+    // The Rust has no test for closedness, so of a survey it does the volume and the containment.
+    add(
+        table,
+        "survey",
+        |cell| ours::survey(cell, &INSIDE, &mut counts, &mut out),
+        |cell| (cell.volume(), cell.contains(&INSIDE)),
+    );
+    add(
+        table,
+        "is_convex",
+        |cell| ours::is_convex(cell, 2, &mut counts),
+        rust::convexity_of,
+    );
+    add_closed(table);
+    add_described(table);
+    add_list_of_faces(table);
+    add_turning(table);
+    add_planes(table);
+    add_cuts(table);
+    add_shapes(table);
+}
+
+/// The Rust has no such test: its column is the plain count in a table of sides.
+fn add_closed(table: &mut Table) {
+    let mut out = [0];
+    for cell in &all_cells() {
+        table.add_sized(
+            "closed",
+            cell.corners.len(),
+            || ours::closed(black_box(cell), &mut out),
+            || is_closed(black_box(cell)),
+        );
+    }
+}
+
+/// The Rust's column is the making of its own form of the cell, which carries the same.
+fn add_described(table: &mut Table) {
+    let mut out = [0; 4];
+    for cell in &all_cells() {
+        table.add_sized(
+            "describe",
+            cell.corners.len(),
+            || ours::describe(black_box(cell), 2, &mut out),
+            || own_form(black_box(cell)),
+        );
+    }
+}
+
+fn add_list_of_faces(table: &mut Table) {
+    let mut out = [0];
+    for cell in &all_cells() {
+        let list = cell.faces().join(&FACE_END);
+        let by_rust = rust::connectivity(&list);
+        table.add_sized(
+            "point_in_phed",
+            cell.corners.len(),
+            || ours::point_in_phed(black_box(&cell.coords), &list, INSIDE, &mut out),
+            || rust::point_in_connected(INSIDE, black_box(cell.points()), &by_rust),
+        );
+    }
+}
+
+/// The faces look outward as they are, so none is turned.
+fn add_turning(table: &mut Table) {
+    for cell in &all_cells() {
+        let mut corners = cell.corners.clone();
+        let mut by_rust = own_form(cell);
+        table.add_cell(
+            "into_ccw",
+            cell.corners.len(),
+            || ours::into_ccw(black_box(&cell.coords), &mut corners, &cell.ends),
+            || black_box(&mut by_rust).into_ccw(),
+            || own_form(black_box(cell)).into_ccw(),
+        );
+    }
+}
+
+/// The port checks the whole cell for the plane of one face; the Rust looks at the face alone.
+fn add_planes(table: &mut Table) {
+    let mut out = [0.0; 4];
+    for cell in &all_cells() {
+        let face = cells::as_usize(&cell.faces()[0]);
+        table.add_sized(
+            "plane_of_face",
+            cell.corners.len(),
+            || ours::plane_of_face(black_box(cell), 0, &mut out),
+            || rust::plane_of_face(black_box(cell.points()), &face),
+        );
+    }
+}
+
+/// A face as the only one of a cell.
+fn add_cuts(table: &mut Table) {
+    for size in FACE_SIZES {
+        let points = in_space(&faces::regular(size));
+        let places: Vec<usize> = (0..size).collect();
+        let corners: Vec<u32> = (0..size as u32).collect();
+        let cell = Cell::of_one_face(points.as_flattened(), &corners);
+        let mut out = vec![[0; 3]; size - 2];
+        let mut count = [0];
+        table.add_sized(
+            "triangles",
+            size,
+            || ours::triangles(black_box(&cell), 0, &mut out, &mut count),
+            || rust::ear_clip_triangles(black_box(&points), &places),
+        );
+    }
+}
+
+/// The volume and the containment of one fixed shape.
+macro_rules! add_shape {
+    ($table:ident, $points:expr, $volume:ident, $contains:ident) => {
+        let points = &$points;
+        let numbers = points.as_flattened();
+        let (mut volume, mut yes) = ([0.0], [0]);
+        $table.add(
+            stringify!($volume),
+            || ours::$volume(black_box(numbers), &mut volume),
+            || rust::$volume(black_box(points)),
+        );
+        $table.add(
+            stringify!($contains),
+            || ours::$contains(black_box(numbers), INSIDE, &mut yes),
+            || rust::$contains(INSIDE, black_box(points)),
+        );
+    };
+}
+
+fn add_shapes(table: &mut Table) {
+    let base = [[0.0, 0.0, 0.0], [2.0, 0.0, 0.0], [0.0, 2.0, 0.0]];
+    let top = base.map(|[x, y, z]| [x, y, z + 1.0]);
+    let tip = [0.0, 0.0, 2.0];
+    let cube = cells::unit_cube();
+    let corners = cube.points().first_chunk().expect("eight corners");
+    add_shape!(
+        table,
+        [base[0], base[1], base[2], tip],
+        tet_volume,
+        tet_contains
+    );
+    add_shape!(
+        table,
+        [base[0], base[1], base[2], top[0], top[1], top[2]],
+        wedge_volume,
+        wedge_contains
+    );
+    add_shape!(table, *corners, hex_volume, hex_contains);
 }

@@ -3,9 +3,10 @@
 
 use oracle::{plain, ruled};
 
-use crate::calls::{Lent, same_lists};
+use crate::calls::{Given, same_lists};
 use crate::cells::Cell;
-use crate::pairs::Pair;
+use crate::pairs::Kind;
+use crate::shrink::Input;
 use crate::tally::Tally;
 
 /// Most units in the last place that are counted as a difference of rounding.
@@ -70,9 +71,9 @@ impl Beside {
         }
     }
 
-    /// Asks both builds about a pair, and gives the ruled one's overlap.
-    pub fn add(&mut self, pair: &Pair) -> f64 {
-        let [first, second] = pair.cells.each_ref().map(Cell::for_the_rust);
+    /// Asks both builds about a pair of some kind, and gives the ruled one's overlap.
+    pub fn add(&mut self, kind: Kind, cells: &[Cell; 2]) -> f64 {
+        let [first, second] = cells.each_ref().map(Cell::for_the_rust);
         for cell in [first, second] {
             for (a, b) in plain::planes(cell).iter().zip(&ruled::planes(cell)) {
                 self.add_planes(a, b);
@@ -80,7 +81,7 @@ impl Beside {
         }
         let unmodified = plain::convex_intersection_volume(first, second);
         let ruled = ruled::convex_intersection_volume(first, second);
-        self.add_volumes([unmodified, ruled], pair);
+        self.add_volumes([unmodified, ruled], kind, cells);
         ruled
     }
 
@@ -91,14 +92,14 @@ impl Beside {
         self.planes.add(Planes::of(unmodified, ruled));
     }
 
-    fn add_volumes(&mut self, volumes: [f64; 2], pair: &Pair) {
-        let share = share(volumes, &pair.cells[0]);
-        let kind = Volumes::of(volumes, share);
-        self.volumes.add(kind);
+    fn add_volumes(&mut self, volumes: [f64; 2], kind: Kind, cells: &[Cell; 2]) {
+        let share = share(volumes, &cells[0]);
+        let differ = Volumes::of(volumes, share);
+        self.volumes.add(differ);
         self.largest_share = self.largest_share.max(share);
-        if let Some(place) = GRAVE.iter().position(|&grave| grave == kind) {
-            self.pairs.add(pair.kind);
-            self.keep_smaller(place, volumes, &pair.cells);
+        if let Some(place) = GRAVE.iter().position(|&grave| grave == differ) {
+            self.pairs.add(kind);
+            self.keep_smaller(place, volumes, cells);
         }
     }
 
@@ -136,8 +137,8 @@ impl Beside {
 impl Example {
     fn print(&self) {
         let [unmodified, ruled] = self.volumes;
-        println!("// unmodified {unmodified:e}, ruled {ruled:e}; the first cell, then the second");
-        self.cells.iter().for_each(Cell::print);
+        println!("// unmodified {unmodified:e}, ruled {ruled:e}");
+        self.cells.print();
     }
 }
 

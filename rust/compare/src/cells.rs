@@ -2,10 +2,13 @@
 
 use std::f64::consts::TAU;
 
-use crate::calls::print_list;
+use crate::calls::{Calls, print_list};
+use crate::comparison::Compared;
 use crate::limits::{LARGEST, MOST_CORNERS, MOST_FACES, MOST_VERTICES, clamped};
 use crate::random::Random;
+use crate::refusals::{has_bad_ends, of_cell};
 use crate::scale::Scale;
+use crate::shrink::{Input, Shrink, fewer_vertices, in_groups, within};
 
 /// A cell as document 01 lists it.
 #[derive(Clone, Debug, PartialEq)]
@@ -43,17 +46,19 @@ impl Cell {
         self.coords.as_chunks_mut::<3>().0
     }
 
+    /// The corners of one face. The ends must be sound.
+    pub fn face(&self, number: u32) -> &[u32] {
+        let start = match number {
+            0 => 0,
+            _ => self.ends[number as usize - 1],
+        };
+        &self.corners[start as usize..self.ends[number as usize] as usize]
+    }
+
     /// The faces as lists of their own. The ends must be sound.
     pub fn faces(&self) -> Vec<Vec<u32>> {
-        let mut start = 0;
-        self.ends
-            .iter()
-            .map(|&end| {
-                let face = self.corners[start..end as usize].to_vec();
-                start = end as usize;
-                face
-            })
-            .collect()
+        let numbers = 0..self.ends.len() as u32;
+        numbers.map(|number| self.face(number).to_vec()).collect()
     }
 
     fn set_faces(&mut self, faces: &[Vec<u32>]) {
@@ -104,13 +109,6 @@ impl Cell {
         oracle::Cell::flat(&self.coords, &self.corners, &self.ends)
     }
 
-    /// Prints the lists so that they can be pasted into a test.
-    pub fn print(&self) {
-        print_list("coords", "f64", &self.coords);
-        print_list("corners", "u32", &self.corners);
-        print_list("ends", "u32", &self.ends);
-    }
-
     /// The least and the greatest of each coordinate.
     pub fn bounds(&self) -> [[f64; 3]; 2] {
         let mut low = [f64::INFINITY; 3];
@@ -122,6 +120,55 @@ impl Cell {
             }
         }
         [low, high]
+    }
+}
+
+impl Input for Cell {
+    fn print(&self) {
+        self.print_as("");
+    }
+}
+
+impl Shrink for Cell {
+    /// Fewer faces and corners, then fewer vertices, then plainer coordinates.
+    fn shrink(&mut self, fails: &mut dyn FnMut(&Cell) -> bool) {
+        if has_bad_ends(self) {
+            within(self, |cell| &mut cell.corners, Vec::shrink, fails);
+            within(self, |cell| &mut cell.ends, Vec::shrink, fails);
+        } else {
+            self.shrink_faces(fails);
+        }
+        let mut tried = self.clone();
+        fewer_vertices(
+            &mut self.coords,
+            &mut self.corners,
+            &mut |coords, corners| {
+                tried.coords = coords.to_vec();
+                tried.corners = corners.to_vec();
+                fails(&tried)
+            },
+        );
+        within(self, |cell| &mut cell.coords, in_groups::<3>, fails);
+    }
+}
+
+impl Cell {
+    /// Prints the lists with a prefix before their names, so that two cells can be pasted together.
+    pub fn print_as(&self, prefix: &str) {
+        print_list(&format!("{prefix}coords"), "f64", &self.coords);
+        print_list(&format!("{prefix}corners"), "u32", &self.corners);
+        print_list(&format!("{prefix}ends"), "u32", &self.ends);
+    }
+
+    /// Leaves out faces and corners, each end following. The ends must be sound.
+    fn shrink_faces(&mut self, fails: &mut dyn FnMut(&Cell) -> bool) {
+        let mut faces = self.faces();
+        let mut tried = self.clone();
+        faces.shrink(&mut |fewer| {
+            tried.set_faces(fewer);
+            fails(&tried)
+        });
+        self.set_faces(&faces);
     }
 }
 
@@ -690,21 +737,73 @@ pub fn doubly_damaged(cell: &Cell, random: &mut Random) -> Option<Damaged> {
     })
 }
 
-/// Hands on random cells, and all damaged copies of every fourth, and says how many they were.
-pub fn compare_many(count: u64, seed: u64, mut compare: impl FnMut(&Cell, &mut Random)) {
+/// A cell whose lists are each about as long as they may be, or short; some are too long. It has many
+/// faces, for the cost of a cut may grow with the cube of a face's corners.
+fn any_near_limits(random: &mut Random) -> Cell {
+    let mut length = |shortest: usize, most: usize| match random.below(3) {
+        0 => random.between(shortest, most),
+        _ => random.between(most - 2, most + 2),
+    };
+    let vertices = length(1, MOST_VERTICES);
+    let faces = length(MOST_FACES / 2, MOST_FACES);
+    let corners = length(0, MOST_CORNERS);
+    let points: Vec<[f64; 3]> = (0..vertices).map(|_| any_point(random)).collect();
+    let mut ends: Vec<u32> = (0..faces)
+        .map(|_| random.between(0, corners) as u32)
+        .collect();
+    ends.sort_unstable();
+    ends[faces - 1] = corners as u32;
+    Cell {
+        coords: points.into_flattened(),
+        corners: any_face(corners, vertices, random),
+        ends,
+    }
+}
+
+/// Hands on random cells, all damaged copies of every fourth, and now and then one near the limits.
+pub fn compare_many(
+    calls: &mut Calls,
+    count: u64,
+    seed: u64,
+    mut compare: impl FnMut(&mut Calls, &Cell, &mut Random) -> Compared,
+) -> Compared {
     let mut random = Random::new(seed);
-    let mut copies = 0;
     for _ in 0..count {
-        let cell = any(&mut random).cell;
-        compare(&cell, &mut random);
+        let made = any(&mut random);
+        calls.count("cells", made.kind);
+        compare(calls, &made.cell, &mut random)?;
         if random.once_in(4) {
-            let once = damaged(&cell, &mut random);
-            let twice = doubly_damaged(&cell, &mut random);
+            let once = damaged(&made.cell, &mut random);
+            let twice = doubly_damaged(&made.cell, &mut random);
             for copy in once.into_iter().chain(twice) {
-                compare(&copy.cell, &mut random);
-                copies += 1;
+                calls.count("damaged copies", copy.what);
+                compare(calls, &copy.cell, &mut random)?;
             }
         }
+        if random.once_in(64) {
+            let cell = any_near_limits(&mut random);
+            calls.count("near the limits: refused", of_cell(&cell, false));
+            compare(calls, &cell, &mut random)?;
+        }
     }
-    println!("{count} cells and {copies} damaged copies, seed {seed}");
+    Ok(())
+}
+
+#[cfg(test)]
+mod tests {
+    use super::*;
+
+    #[test]
+    fn cells_near_the_limits_are_sound_or_refused_for_their_size() {
+        let mut random = Random::new(4);
+        let refusals: Vec<Option<u8>> = (0..200)
+            .map(|_| of_cell(&any_near_limits(&mut random), false))
+            .collect();
+        let sound = refusals.iter().filter(|refusal| refusal.is_none()).count();
+        let too_long = refusals
+            .iter()
+            .filter(|&&refusal| refusal == Some(1))
+            .count();
+        assert!(sound > 20 && too_long > 20 && sound + too_long == 200);
+    }
 }

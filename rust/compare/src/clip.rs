@@ -8,12 +8,12 @@ use oracle::ruled as rust;
 
 use crate::calls::{Calls, same_lists};
 use crate::clips::{self, Case};
+use crate::comparison::{Compared, ask};
 use crate::outlines::{self, Pair};
 use crate::random::Random;
 use crate::retold::{self, Clipped};
-use crate::tally::Tally;
-use crate::work::{Entry, Work};
-use crate::{Outcome, count_and_seed, ours, refusals};
+use crate::work::{Choice, Entry, Work, beside_the_limit};
+use crate::{ours, refusals};
 
 const CLIP_FACE: Entry = Entry {
     name: "clip_face",
@@ -31,80 +31,48 @@ const AREA: Entry = Entry {
     values: 1,
 };
 
-pub fn run(words: &[String]) -> Result<Outcome, String> {
-    let (count, seed) = count_and_seed(words, 100_000)?;
-    let mut random = Random::new(seed);
-    let mut compared = Compared {
-        calls: Calls::default(),
-        faces: Tally::new("faces"),
-        pairs: Tally::new("pairs"),
-    };
+/// Clips random faces and as many outlines of the plane, and damaged copies of every fourth.
+pub fn compare(calls: &mut Calls, count: u64, seed: u64) -> Compared {
+    let random = &mut Random::new(seed);
     for _ in 0..count {
-        compared.add_face(&mut random);
-        compared.add_pair(&mut random);
-    }
-    println!("{count} faces and {count} planar pairs, seed {seed}; one in four damaged as well");
-    compared.faces.print();
-    compared.pairs.print();
-    compared.calls.print();
-    Ok(compared.calls.outcome())
-}
-
-struct Compared {
-    calls: Calls,
-    faces: Tally,
-    pairs: Tally,
-}
-
-impl Compared {
-    /// A random face, and now and then a damaged copy of it.
-    fn add_face(&mut self, random: &mut Random) {
         let case = clips::any(random);
-        self.face(&case, random);
-        if random.once_in(4) {
-            self.face(&clips::damaged(case, random), random);
-        }
-    }
-
-    fn add_pair(&mut self, random: &mut Random) {
+        ask(calls, &case, random, by_planes(beside_the_limit))?;
         let pair = outlines::any(random);
-        self.pair(&pair, random);
+        ask(calls, &pair, random, by_edges(beside_the_limit))?;
         if random.once_in(4) {
-            self.pair(&outlines::damaged(pair, random), random);
+            let case = clips::damaged(case, random);
+            ask(calls, &case, random, by_planes(beside_the_limit))?;
+            let pair = outlines::damaged(pair, random);
+            ask(calls, &pair, random, by_edges(beside_the_limit))?;
         }
     }
+    Ok(())
+}
 
-    fn face(&mut self, case: &Case, random: &mut Random) {
-        let faces = &mut self.faces;
-        let Case {
-            cell,
-            face,
-            planes,
-            eps,
-        } = case;
-        let compare = |calls: &mut Calls| {
-            let told = told_face(case, calls).inspect(|told| faces.add(Left::of(told)));
-            CLIP_FACE.ask(calls, &told.map(shown), random, |first, second, shown| {
-                ours::clip_face(cell, *face, planes, *eps, first, second, shown)
-            });
-        };
-        self.calls.with_input(compare, || case.print());
+/// How a face by planes is compared, with lists as they are chosen.
+pub fn by_planes(choice: Choice) -> impl Fn(&mut Calls, &Case, &mut Random) {
+    move |calls, case, random| {
+        let expected = told_face(case, calls).map(shown);
+        CLIP_FACE.ask(calls, &expected, choice, random, |first, second, shown| {
+            let Case { cell, planes, .. } = case;
+            ours::clip_face(cell, case.face, planes, case.eps, first, second, shown)
+        });
     }
+}
 
-    fn pair(&mut self, pair: &Pair, random: &mut Random) {
-        let pairs = &mut self.pairs;
+/// How an outline by the edges of another is compared, with lists as they are chosen.
+pub fn by_edges(choice: Choice) -> impl Fn(&mut Calls, &Pair, &mut Random) {
+    move |calls, pair, random| {
         let Pair { subject, clip } = pair;
-        let compare = |calls: &mut Calls| {
-            let told = told_pair(pair, calls).inspect(|told| pairs.add(Left::of(told)));
-            let area = told.as_ref().map(area).map_err(|&number| number);
-            AREA.ask(calls, &area, random, |first, second, out| {
-                ours::convex_intersection_area(subject, clip, first, second, out)
-            });
-            CLIP_CONVEX.ask(calls, &told.map(shown), random, |first, second, shown| {
-                ours::clip_convex(subject, clip, first, second, shown)
-            });
-        };
-        self.calls.with_input(compare, || pair.print());
+        let told = told_pair(pair, calls);
+        let area = told.as_ref().map(area).map_err(|&number| number);
+        AREA.ask(calls, &area, choice, random, |first, second, out| {
+            ours::convex_intersection_area(subject, clip, first, second, out)
+        });
+        let expected = told.map(shown);
+        CLIP_CONVEX.ask(calls, &expected, choice, random, |first, second, shown| {
+            ours::clip_convex(subject, clip, first, second, shown)
+        });
     }
 }
 
@@ -141,10 +109,11 @@ fn told_face(case: &Case, calls: &mut Calls) -> Result<Clipped<3>, u8> {
     if let Some(number) = refusal {
         return Err(number);
     }
-    let face = case.cell.outline(&case.cell.faces()[case.face as usize]);
+    let face = case.cell.outline(case.cell.face(case.face));
     let planes = case.planes.as_chunks::<4>().0;
     let told = retold::clip_face(&face, planes, case.eps);
-    expect_told(calls, &told, "clip_face told again", || {
+    calls.count("faces", Left::of(&told));
+    expect_told(calls, &told, CLIP_FACE.name, || {
         rust::clip_face_by_polyhedron(&face, planes, case.eps).unwrap_or_default()
     });
     Ok(told)
@@ -159,7 +128,8 @@ fn told_pair(pair: &Pair, calls: &mut Calls) -> Result<Clipped<2>, u8> {
     let subject = pair.subject.as_chunks::<2>().0;
     let clip = pair.clip.as_chunks::<2>().0;
     let told = retold::clip_convex(subject, clip);
-    expect_told(calls, &told, "clip_convex told again", || {
+    calls.count("outlines", Left::of(&told));
+    expect_told(calls, &told, CLIP_CONVEX.name, || {
         rust::clip_convex(subject, clip)
     });
     Ok(told)
@@ -169,15 +139,13 @@ fn told_pair(pair: &Pair, calls: &mut Calls) -> Result<Clipped<2>, u8> {
 fn expect_told<const D: usize>(
     calls: &mut Calls,
     told: &Clipped<D>,
-    what: &str,
+    entry: &'static str,
     by_the_rust: impl FnOnce() -> Vec<[f64; D]>,
 ) {
     if !told.is_too_long() {
         let left = by_the_rust();
-        calls.expect(
-            same_lists(told.left.as_flattened(), left.as_flattened()),
-            what,
-        );
+        let same = same_lists(told.left.as_flattened(), left.as_flattened());
+        calls.expect(same, entry, "told again is not what the Rust says");
     }
 }
 
@@ -202,5 +170,55 @@ fn area(told: &Clipped<2>) -> Work<f64> {
         values: vec![rust::signed_area2(&told.left).abs()],
         shown: Vec::new(),
         shown_in: 0,
+    }
+}
+
+#[cfg(test)]
+mod tests {
+    use super::*;
+    use crate::comparison::tests::smallest_of;
+
+    /// A clipping that applies only the first plane.
+    fn by_the_first_plane(case: &Case) -> Vec<[f64; 3]> {
+        let planes = case.planes.as_chunks::<4>().0;
+        let first = &planes[..planes.len().min(1)];
+        let face = case.cell.outline(case.cell.face(case.face));
+        retold::clip_face(&face, first, case.eps).left
+    }
+
+    #[test]
+    fn a_lost_second_plane_shrinks_to_two_planes() {
+        let small = smallest_of(clips::any, |calls, case, _| {
+            if let Ok(told) = told_face(case, calls) {
+                let same = same_lists(
+                    told.left.as_flattened(),
+                    by_the_first_plane(case).as_flattened(),
+                );
+                calls.gave("clip_face", same, true);
+            }
+        });
+        assert_eq!(small.planes.len(), 8);
+        assert_eq!((small.face, small.cell.ends.len()), (0, 1));
+        assert!(small.cell.corners.len() <= 3);
+    }
+
+    /// The slip 'emptying a 2-point subject when there is no edge'.
+    #[test]
+    fn an_emptied_subject_shrinks_to_one_point_at_the_origin() {
+        let small = smallest_of(outlines::any, |calls, pair, random| {
+            let expected = told_pair(pair, calls).map(shown);
+            let choice = beside_the_limit;
+            CLIP_CONVEX.ask(calls, &expected, choice, random, |first, second, shown| {
+                let Pair { subject, clip } = pair;
+                let answer = ours::clip_convex(subject, clip, first, second, shown);
+                if answer == 0 && subject.len() < 6 {
+                    first.fill(0.0);
+                    shown[0] = 0;
+                }
+                answer
+            });
+        });
+        assert_eq!(small.subject, [0.0, 0.0]);
+        assert!(small.clip.is_empty());
     }
 }

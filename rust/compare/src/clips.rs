@@ -1,16 +1,19 @@
 //! Random inputs of clipping in space: a face, planes and a tolerance.
 
-use crate::calls::print_list;
+use crate::calls::{pasteable, print_list};
 use crate::cells::{self, Cell};
 use crate::faces;
 use crate::limits::{LARGEST, MOST_CORNERS, MOST_PLANES, MOST_VERTICES};
 use crate::random::Random;
+use crate::refusals::of_face;
+use crate::shrink::{Input, Shrink, in_groups, turn_into, within};
 use crate::vectors::{Vector, cross, difference, dot, scaled, sum, unit};
 
 /// Most planes of a random case.
 const PLANES: usize = 12;
 
 /// A face of a cell, and what it is clipped by.
+#[derive(Clone)]
 pub struct Case {
     pub cell: Cell,
     pub face: u32,
@@ -19,14 +22,35 @@ pub struct Case {
     pub eps: f64,
 }
 
-impl Case {
-    pub fn print(&self) {
+impl Input for Case {
+    fn print(&self) {
         self.cell.print();
-        println!(
-            "let (face, eps): (u32, f64) = ({}, {:?});",
-            self.face, self.eps
-        );
         print_list("planes", "f64", &self.planes);
+        let (face, eps) = (self.face, pasteable(&self.eps));
+        println!("let (face, eps): (u32, f64) = ({face}, {eps});");
+    }
+}
+
+impl Shrink for Case {
+    fn shrink(&mut self, fails: &mut dyn FnMut(&Case) -> bool) {
+        if self.cell.ends.len() > 1 && of_face(&self.cell, self.face).is_none() {
+            turn_into(self, self.of_one_face(), fails);
+        }
+        within(self, |case| &mut case.planes, in_groups::<4>, fails);
+        within(self, |case| &mut case.cell, Cell::shrink, fails);
+        within(self, |case| &mut case.face, u32::shrink, fails);
+        within(self, |case| &mut case.eps, f64::shrink, fails);
+    }
+}
+
+impl Case {
+    /// The same with no face but the one that is clipped.
+    fn of_one_face(&self) -> Case {
+        Case {
+            cell: Cell::of_one_face(&self.cell.coords, self.cell.face(self.face)),
+            face: 0,
+            ..self.clone()
+        }
     }
 }
 
@@ -35,10 +59,7 @@ pub fn any(random: &mut Random) -> Case {
     let cell = match random.below(100) {
         0 => with_a_long_face(random),
         1..50 => cells::any(random).cell,
-        _ => {
-            let face = faces::any_with_a_vertex(random, MOST_VERTICES).face;
-            Cell::of_one_face(&face.coords, &face.corners)
-        }
+        _ => faces::any_with_a_vertex(random, MOST_VERTICES).cell,
     };
     let face = random.below(cell.ends.len().max(1));
     let outline = match cell.faces().get(face) {

@@ -1,58 +1,106 @@
 //! `compare cells`: random cells and damaged copies, by the port and by the Rust.
 //!
-//! Every entry is asked with a list that has places to spare and, now and then, one place too few.
-//! The values must be those of the Rust, bit for bit; every other place must be as it was.
+//! Every entry is asked with a list that has places to spare and, now and then, with too few. The values
+//! must be those of the Rust, bit for bit; every other place must be as it was.
 
 use std::collections::HashMap;
 
 use oracle::plain as rust;
 
-use crate::calls::{Calls, Expected, Lent, print_list, same_lists, unless_refused};
+use crate::calls::{Calls, print_list, unless_refused};
 use crate::cells::{self, Cell};
-use crate::cut::triangles_by_the_rust;
-use crate::limits::BAD_NUMBERS;
+use crate::comparison::{Compared, ask};
+use crate::cut::{compare_face, triangles_by_the_rust};
+use crate::limits::{BAD_NUMBERS, MOST_QUERIES};
+use crate::lists::{self, Points};
+use crate::marked::{self, Marked};
 use crate::random::Random;
-use crate::{Outcome, count_and_seed, ours, refusals};
+use crate::refusals::is_bad_number;
+use crate::shrink::{Input, Shrink, within};
+use crate::{ours, refusals};
 
-/// The corner that ends a face in the one list of `point_in_phed`, and how long that list may be.
-const FACE_END: u32 = u32::MAX;
-const LONGEST_LIST: usize = 2304;
-
-/// Query points a cell.
+/// Query points a cell, not counting one that is no point of the domain.
 const QUERIES: usize = 4;
 
-pub fn run(words: &[String]) -> Result<Outcome, String> {
-    let (count, seed) = count_and_seed(words, 200_000)?;
-    let mut calls = Calls::default();
-    cells::compare_many(count, seed, |cell, random| {
-        compare_cell(&mut calls, cell, random)
-    });
-    calls.print();
-    Ok(calls.outcome())
+/// Asks every entry about random cells, sound and damaged.
+pub fn compare(calls: &mut Calls, count: u64, seed: u64) -> Compared {
+    cells::compare_many(calls, count, seed, |calls, cell, random| {
+        let question = Question::any(cell, random);
+        let marked = Marked::of_cell(cell, &question.queries, random);
+        ask(calls, &question, random, compare_question)?;
+        ask(calls, &marked, random, marked::compare)?;
+        let points = Points(cell.coords.clone());
+        ask(calls, &points, random, lists::compare_in_space)?;
+        let points = Points(any_flat(&cell.coords, random));
+        ask(calls, &points, random, lists::compare_in_the_plane)
+    })
 }
 
-/// Asks every entry about one cell, sound or damaged.
-fn compare_cell(calls: &mut Calls, cell: &Cell, random: &mut Random) {
+/// The same numbers as points of the plane, mostly without the odd one at the end.
+fn any_flat(coords: &[f64], random: &mut Random) -> Vec<f64> {
+    let even = coords.len() - coords.len() % 2;
+    match random.below(8) {
+        0 => coords.to_vec(),
+        1 => {
+            let around = coords.iter().cycle();
+            around.take(random.between(1020, 1028)).copied().collect()
+        }
+        _ => coords[..even].to_vec(),
+    }
+}
+
+/// A cell and the points that are asked about it.
+#[derive(Clone)]
+pub struct Question {
+    pub cell: Cell,
+    pub queries: Vec<[f64; 3]>,
+}
+
+impl Question {
+    /// Some points near the cell or on it, and one with a bad number.
+    fn any(cell: &Cell, random: &mut Random) -> Question {
+        let sound = refusals::of_cell(cell, false).is_none();
+        let mut queries: Vec<[f64; 3]> = (0..QUERIES)
+            .map(|_| match sound {
+                true => cells::any_query(cell, random),
+                false => cells::any_point(random),
+            })
+            .collect();
+        let mut bad = [0.0; 3];
+        bad[random.below(3)] = random.pick(&BAD_NUMBERS);
+        queries.push(bad);
+        Question {
+            cell: cell.clone(),
+            queries,
+        }
+    }
+}
+
+impl Input for Question {
+    fn print(&self) {
+        self.cell.print();
+        print_list("queries", "[f64; 3]", &self.queries);
+    }
+}
+
+impl Shrink for Question {
+    fn shrink(&mut self, fails: &mut dyn FnMut(&Question) -> bool) {
+        within(self, |question| &mut question.queries, Vec::shrink, fails);
+        within(self, |question| &mut question.cell, Cell::shrink, fails);
+    }
+}
+
+/// Asks every entry that takes a whole cell and no shape.
+pub fn compare_question(calls: &mut Calls, question: &Question, random: &mut Random) {
+    let Question { cell, queries } = question;
+    measures(calls, cell, &mut random.fork());
+    containment(calls, cell, queries, &mut random.fork());
+    surveys(calls, cell, queries, &mut random.fork());
+    triangles(calls, cell, &mut random.fork());
+}
+
+fn measures(calls: &mut Calls, cell: &Cell, random: &mut Random) {
     let refusal = refusals::of_cell(cell, false);
-    let queries: [[f64; 3]; QUERIES] = [(); QUERIES].map(|()| match refusal {
-        None => cells::any_query(cell, random),
-        Some(_) => [random.signed(), random.signed(), random.signed()],
-    });
-    let compare = |calls: &mut Calls| {
-        measures(calls, cell, refusal, random);
-        containment(calls, cell, refusal, &queries, random);
-        triangles(calls, cell, refusal, random);
-        survey(calls, cell, refusal, queries.as_flattened(), random);
-        space(calls, &cell.coords, random);
-        plane(calls, &cell.coords, random);
-    };
-    calls.with_input(compare, || {
-        cell.print();
-        print_list("queries", "[f64; 3]", &queries);
-    });
-}
-
-fn measures(calls: &mut Calls, cell: &Cell, refusal: Option<u8>, random: &mut Random) {
     let by = |values: &dyn Fn(oracle::Cell) -> Vec<f64>| {
         unless_refused(refusal, || values(cell.for_the_rust()))
     };
@@ -74,201 +122,52 @@ fn measures(calls: &mut Calls, cell: &Cell, refusal: Option<u8>, random: &mut Ra
     calls.asked("closed", 1, closed, random, |out| ours::closed(cell, out));
 }
 
-fn containment(
-    calls: &mut Calls,
-    cell: &Cell,
-    refusal: Option<u8>,
-    queries: &[[f64; 3]],
-    random: &mut Random,
-) {
-    let list = with_marks(cell, refusal.is_none(), random);
+fn containment(calls: &mut Calls, cell: &Cell, queries: &[[f64; 3]], random: &mut Random) {
     for &query in queries {
-        let expected = unless_refused(refusal, || {
+        let expected = unless_refused(refusals::of_queries(cell, &query), || {
             vec![usize::from(rust::contains(cell.for_the_rust(), query))]
         });
-        contains(calls, cell, query, expected, random);
-        phed(calls, cell, &list, query, random);
+        calls.asked("contains", 1, expected, random, |out| {
+            ours::contains(cell, query, out)
+        });
     }
-    // A query value out of the domain comes after the sizes and before the rest.
-    let bad = random.pick(&BAD_NUMBERS);
-    let mut query = [0.0; 3];
-    query[random.below(3)] = bad;
-    let expected = if refusal == Some(1) { Err(1) } else { Err(2) };
-    contains(calls, cell, query, expected, random);
-    phed(calls, cell, &list, query, random);
 }
 
-fn contains(
-    calls: &mut Calls,
-    cell: &Cell,
-    query: [f64; 3],
-    expected: Expected<usize>,
-    random: &mut Random,
-) {
-    calls.asked("contains", 1, expected, random, |out| {
-        ours::contains(cell, query, out)
-    });
+/// Surveys with the good query points, with all, with one number too few, and now and then with as many
+/// points as there may be, or one more.
+fn surveys(calls: &mut Calls, cell: &Cell, queries: &[[f64; 3]], random: &mut Random) {
+    let is_good = |query: &&[f64; 3]| !query.iter().any(|&value| is_bad_number(value));
+    let good: Vec<[f64; 3]> = queries.iter().filter(is_good).copied().collect();
+    survey(calls, cell, good.as_flattened(), random);
+    let all = queries.as_flattened();
+    survey(calls, cell, all, random);
+    survey(calls, cell, &all[..all.len().saturating_sub(1)], random);
+    if random.once_in(64) {
+        let many = MOST_QUERIES + random.below(2);
+        let many: Vec<[f64; 3]> = good.iter().cycle().take(many).copied().collect();
+        survey(calls, cell, many.as_flattened(), random);
+    }
 }
 
-fn phed(calls: &mut Calls, cell: &Cell, list: &[u32], query: [f64; 3], random: &mut Random) {
-    let expected = unless_refused(phed_refusal(cell, list, query), || {
-        vec![usize::from(rust::point_in_phed(query, cell.points(), list))]
-    });
-    calls.asked("point_in_phed", 1, expected, random, |out| {
-        ours::point_in_phed(&cell.coords, list, query, out)
+fn survey(calls: &mut Calls, cell: &Cell, queries: &[f64], random: &mut Random) {
+    let refusal = refusals::of_queries(cell, queries);
+    let expected = unless_refused(refusal, || survey_by_the_rust(cell, queries));
+    calls.asked_for_two("survey", [4, 1], expected, random, |counts, volume| {
+        ours::survey(cell, queries, counts, volume)
     });
 }
 
 /// The triangles of every face, and of a face that is not there.
-fn triangles(calls: &mut Calls, cell: &Cell, refusal: Option<u8>, random: &mut Random) {
-    let faces = match refusal {
-        None => cell.faces(),
-        Some(number) => {
-            face(calls, cell, 0, 3, Err(number), random);
-            return;
-        }
+fn triangles(calls: &mut Calls, cell: &Cell, random: &mut Random) {
+    let faces = cell.ends.len() as u32;
+    let asked = match refusals::of_cell(cell, false) {
+        None => faces,
+        Some(_) => faces.min(1),
     };
-    for (place, corners) in faces.iter().enumerate() {
-        let expected = Ok(triangles_by_the_rust(cell.points(), corners));
-        let wanted = corners.len().saturating_sub(2);
-        face(calls, cell, place as u32, wanted, expected, random);
+    let beyond = [faces + random.below(3) as u32, u32::MAX];
+    for face in (0..asked).chain(beyond) {
+        compare_face(calls, cell, face, random, ours::triangles);
     }
-    let beyond = faces.len() as u32 + random.below(3) as u32;
-    face(calls, cell, beyond, 3, Err(4), random);
-    face(calls, cell, u32::MAX, 3, Err(4), random);
-}
-
-fn face(
-    calls: &mut Calls,
-    cell: &Cell,
-    number: u32,
-    wanted: usize,
-    expected: Expected<[u32; 3]>,
-    random: &mut Random,
-) {
-    let mut count = [usize::MARK];
-    let values = expected.clone();
-    calls.asked("triangles", wanted, expected, random, |out| {
-        ours::triangles(cell, number, out, &mut count)
-    });
-    // The count as a call with enough room leaves it, and once more without a place for it.
-    let mut out = vec![<[u32; 3]>::MARK; wanted];
-    count = [usize::MARK];
-    let answer = ours::triangles(cell, number, &mut out, &mut count);
-    let counted = match &values {
-        Ok(triangles) => answer == 0 && count == [triangles.len()],
-        Err(number) => answer == *number && count == [usize::MARK],
-    };
-    calls.expect(counted, "triangles: the count");
-    if random.once_in(8) {
-        let mut out = vec![<[u32; 3]>::MARK; wanted];
-        let answer = ours::triangles(cell, number, &mut out, &mut []);
-        let untouched = out.iter().all(|&triangle| triangle == <[u32; 3]>::MARK);
-        let wanted = values.err().unwrap_or(6);
-        calls.expect(
-            answer == wanted && untouched,
-            "triangles: no place for the count",
-        );
-    }
-}
-
-fn survey(
-    calls: &mut Calls,
-    cell: &Cell,
-    refusal: Option<u8>,
-    queries: &[f64],
-    random: &mut Random,
-) {
-    let measured = refusal.is_none().then(|| survey_by_the_rust(cell, queries));
-    let left = match &measured {
-        Some((_, volume)) => [*volume, f64::MARK],
-        None => [f64::MARK; 2],
-    };
-    let counts = unless_refused(refusal, || measured.unwrap_or_default().0);
-    calls.asked("survey", 4, counts, random, |out| {
-        let mut volume = [f64::MARK; 2];
-        let answer = ours::survey(cell, queries, out, &mut volume);
-        let wanted = if answer == 0 { left } else { [f64::MARK; 2] };
-        // No answer has the number 99: a wrong volume is told by it.
-        if same_lists(&volume, &wanted) {
-            answer
-        } else {
-            99
-        }
-    });
-    // No place for the volume; then queries that are not in threes.
-    calls.unwritten("survey", 4, refusal.unwrap_or(6), |out| {
-        ours::survey(cell, queries, out, &mut [])
-    });
-    let mut volume = [f64::MARK];
-    let lost = &queries[..queries.len() - 1];
-    calls.unwritten("survey", 4, 1, |out| {
-        ours::survey(cell, lost, out, &mut volume)
-    });
-    calls.expect(
-        volume == [f64::MARK],
-        "survey: the volume of a refused call",
-    );
-}
-
-fn space(calls: &mut Calls, coords: &[f64], random: &mut Random) {
-    let by = |values: &dyn Fn(&[[f64; 3]]) -> Vec<f64>| {
-        unless_refused(refusals::of_points(coords), || {
-            values(coords.as_chunks::<3>().0)
-        })
-    };
-    let normal = by(&|points| rust::newell_normal(points).to_vec());
-    calls.asked("newell_normal", 3, normal, random, |out| {
-        ours::newell_normal(coords, out)
-    });
-    let centroid = by(&|points| rust::vertex_centroid3(points).to_vec());
-    calls.asked("vertex_centroid", 3, centroid, random, |out| {
-        ours::vertex_centroid(coords, out)
-    });
-    let bounds = by(&|points| rust::bounds_iter3(points).as_flattened().to_vec());
-    calls.asked_for_bounds("list_bounds", 6, bounds, random, |out| {
-        ours::list_bounds(coords, out)
-    });
-}
-
-/// The same numbers as points of the plane, mostly without the odd one at the end.
-fn plane(calls: &mut Calls, coords: &[f64], random: &mut Random) {
-    let even = coords.len() - coords.len() % 2;
-    let numbers: Vec<f64> = match random.below(8) {
-        0 => coords.to_vec(),
-        1 => coords
-            .iter()
-            .cycle()
-            .take(random.between(1020, 1028))
-            .copied()
-            .collect(),
-        _ => coords[..even].to_vec(),
-    };
-    let refusal = refusals::of_points2(&numbers);
-    let by = |values: &dyn Fn(&[[f64; 2]]) -> Vec<f64>| {
-        unless_refused(refusal, || values(numbers.as_chunks::<2>().0))
-    };
-    let area = by(&|points| vec![rust::signed_area2(points)]);
-    calls.asked("signed_area2", 1, area, random, |out| {
-        ours::signed_area2(&numbers, out)
-    });
-    let centroid = by(&|points| rust::vertex_centroid2(points).to_vec());
-    calls.asked("vertex_centroid2", 2, centroid, random, |out| {
-        ours::vertex_centroid2(&numbers, out)
-    });
-    let bounds = by(&|points| rust::bounds_iter2(points).as_flattened().to_vec());
-    calls.asked_for_bounds("bounds2", 4, bounds, random, |out| {
-        ours::bounds2(&numbers, out)
-    });
-
-    let mut by_the_rust = numbers.clone();
-    if refusal.is_none() {
-        rust::into_ccw2(by_the_rust.as_chunks_mut::<2>().0);
-    }
-    let mut turned = numbers;
-    let answer = ours::into_ccw2(&mut turned);
-    let equal = same_lists(&turned, &by_the_rust);
-    calls.held("into_ccw2", answer, refusal.unwrap_or(0), equal);
 }
 
 // What is expected.
@@ -289,7 +188,7 @@ pub fn is_closed(cell: &Cell) -> bool {
 }
 
 /// Triangles, closed, short, contained; and the volume.
-fn survey_by_the_rust(cell: &Cell, queries: &[f64]) -> (Vec<usize>, f64) {
+fn survey_by_the_rust(cell: &Cell, queries: &[f64]) -> (Vec<usize>, Vec<f64>) {
     let sound = cell.for_the_rust();
     let is_short =
         |face: &&Vec<u32>| triangles_by_the_rust(cell.points(), face).len() + 2 < face.len();
@@ -301,34 +200,72 @@ fn survey_by_the_rust(cell: &Cell, queries: &[f64]) -> (Vec<usize>, f64) {
         cell.faces().iter().filter(is_short).count(),
         contained.count(),
     ];
-    (counts, rust::volume(sound))
+    (counts, vec![rust::volume(sound)])
 }
 
-/// The faces as one list, with or without a mark after the last one. The ends of a damaged cell
-/// are not read.
-fn with_marks(cell: &Cell, sound: bool, random: &mut Random) -> Vec<u32> {
-    if !sound {
-        return cell.corners.clone();
-    }
-    let mut list = cell.faces().join(&FACE_END);
-    if random.once_in(2) {
-        list.push(FACE_END);
-    }
-    // Now and then the list is one entry too long, or as long as it may be.
-    if random.once_in(64) {
-        list.resize(LONGEST_LIST + random.below(2), FACE_END);
-    }
-    list
-}
+#[cfg(test)]
+mod tests {
+    use super::*;
+    use crate::comparison::tests::smallest_of;
 
-fn phed_refusal(cell: &Cell, list: &[u32], query: [f64; 3]) -> Option<u8> {
-    let strays = |&corner: &u32| corner != FACE_END && corner as usize >= cell.coords.len() / 3;
-    match refusals::of_points(&cell.coords) {
-        Some(1) => Some(1),
-        _ if list.len() > LONGEST_LIST => Some(1),
-        Some(2) => Some(2),
-        _ if query.iter().any(|&value| refusals::is_bad_number(value)) => Some(2),
-        _ if list.iter().any(strays) => Some(4),
-        _ => None,
+    fn any(random: &mut Random) -> Question {
+        let cell = cells::any(random).cell;
+        Question::any(&cell, random)
+    }
+
+    /// The slip 'faces under 3 corners counted as short'.
+    fn survey_with_thin_faces(cell: &Cell, counts: &mut [usize], volume: &mut [f64]) -> u8 {
+        let answer = ours::survey(cell, &[], counts, volume);
+        if answer == 0 {
+            counts[2] += cell.faces().iter().filter(|face| face.len() < 3).count();
+        }
+        answer
+    }
+
+    #[test]
+    fn thin_faces_counted_as_short_shrink_to_an_empty_face() {
+        let any = |random: &mut Random| cells::any(random).cell;
+        let small = smallest_of(any, |calls, cell, random| {
+            let refusal = refusals::of_cell(cell, false);
+            let expected = unless_refused(refusal, || survey_by_the_rust(cell, &[]));
+            calls.asked_for_two("survey", [4, 1], expected, random, |counts, volume| {
+                survey_with_thin_faces(cell, counts, volume)
+            });
+        });
+        assert_eq!((small.corners, small.ends), (vec![], vec![0]));
+        assert_eq!(small.coords, [0.0; 3]);
+    }
+
+    /// A containment that looks at the first face only.
+    #[test]
+    fn a_containment_of_one_face_shrinks_to_two_faces() {
+        let small = smallest_of(any, |calls, Question { cell, queries }, _| {
+            for &query in queries {
+                if refusals::of_queries(cell, &query).is_none() && !cell.ends.is_empty() {
+                    let first = Cell::of_one_face(&cell.coords, &cell.faces()[0]);
+                    let found = rust::contains(first.for_the_rust(), query);
+                    let wanted = rust::contains(cell.for_the_rust(), query);
+                    calls.gave("contains", found, wanted);
+                }
+            }
+        });
+        assert_eq!((small.cell.ends.len(), small.queries.len()), (2, 1));
+        assert_eq!(small.cell.corners.len(), 3);
+    }
+
+    /// A list of ends that falls, taken for sound.
+    #[test]
+    fn damaged_ends_shrink_too() {
+        let mut damaged = |random: &mut Random| loop {
+            let copy = cells::any_damaged(&cells::any(random).cell, random);
+            if refusals::of_cell(&copy, false) == Some(3) {
+                return copy;
+            }
+        };
+        let small = smallest_of(&mut damaged, |calls, cell: &Cell, _| {
+            let refused = refusals::of_cell(cell, false) == Some(3);
+            calls.gave("closed", refused && !cell.ends.is_sorted(), false);
+        });
+        assert_eq!((small.corners, small.ends), (vec![], vec![1, 0]));
     }
 }

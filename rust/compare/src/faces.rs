@@ -2,27 +2,15 @@
 
 use std::f64::consts::TAU;
 
+use crate::cells::Cell;
 use crate::limits::{LARGEST, MOST_CORNERS, clamped};
 use crate::random::Random;
 use crate::refusals::is_bad_number;
 use crate::scale::Scale;
 
-/// One face over its own list of vertices.
-#[derive(Clone, Debug, PartialEq)]
-pub struct Face {
-    pub coords: Vec<f64>,
-    pub corners: Vec<u32>,
-}
-
-impl Face {
-    pub fn points(&self) -> &[[f64; 3]] {
-        self.coords.as_chunks::<3>().0
-    }
-}
-
-/// A random face and how it was made.
+/// A random face, as the only one of a cell, and how it was made.
 pub struct Made {
-    pub face: Face,
+    pub cell: Cell,
     pub outline: Outline,
     pub placement: Placement,
     pub scale: Scale,
@@ -138,7 +126,7 @@ pub fn any(random: &mut Random, most_vertices: usize) -> Made {
     assert!(points.iter().flatten().all(|&value| !is_bad_number(value)));
     let spare = random.below(4).min(most_vertices - point_count);
     Made {
-        face: numbered(&points, &ring, spare, random),
+        cell: numbered(&points, &ring, spare, random),
         outline,
         placement,
         scale,
@@ -150,7 +138,7 @@ pub fn any(random: &mut Random, most_vertices: usize) -> Made {
 pub fn any_with_a_vertex(random: &mut Random, most_vertices: usize) -> Made {
     loop {
         let made = any(random, most_vertices);
-        if !made.face.coords.is_empty() {
+        if !made.cell.coords.is_empty() {
             return made;
         }
     }
@@ -218,7 +206,7 @@ fn repeat_points(points: &mut [[f64; 3]], random: &mut Random) {
 }
 
 /// Writes the points in a random order, with spare vertices among them, and the corners so.
-fn numbered(points: &[[f64; 3]], ring: &[usize], spare: usize, random: &mut Random) -> Face {
+fn numbered(points: &[[f64; 3]], ring: &[usize], spare: usize, random: &mut Random) -> Cell {
     let mut numbers: Vec<usize> = (0..points.len() + spare).collect();
     random.shuffle(&mut numbers);
     let mut coords = vec![0.0; 3 * numbers.len()];
@@ -227,10 +215,8 @@ fn numbered(points: &[[f64; 3]], ring: &[usize], spare: usize, random: &mut Rand
         let point = points.get(place).copied().unwrap_or(unused);
         coords[3 * number..3 * number + 3].copy_from_slice(&point);
     }
-    Face {
-        coords,
-        corners: ring.iter().map(|&place| numbers[place] as u32).collect(),
-    }
+    let corners: Vec<u32> = ring.iter().map(|&place| numbers[place] as u32).collect();
+    Cell::of_one_face(&coords, &corners)
 }
 
 impl Outline {

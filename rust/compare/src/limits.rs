@@ -5,6 +5,13 @@ pub const MOST_FACES: usize = 256;
 pub const MOST_CORNERS: usize = 2048;
 pub const MOST_PLANES: usize = 256;
 
+/// Query points of one survey.
+pub const MOST_QUERIES: usize = 256;
+
+/// Entries of the one list of `point_in_phed`, and the entry that ends a face in it.
+pub const LONGEST_LIST: usize = 2304;
+pub const FACE_END: u32 = u32::MAX;
+
 /// Points of the plane in one list.
 pub const MOST_POINTS: usize = 512;
 

@@ -1,12 +1,11 @@
 //! Runs the port and the Rust on the same inputs.
 
-// Without the feature the newer commands are left out, and what only they use lies idle.
-#![cfg_attr(not(feature = "newer"), allow(dead_code))]
-
+mod all;
 mod bench;
 mod bench_cells;
-mod bench_clip;
-mod bench_cut;
+mod bench_clips;
+mod bench_leaves;
+mod bench_lists;
 mod beside;
 mod calls;
 mod cells;
@@ -14,10 +13,14 @@ mod check_cells;
 mod clip;
 mod clips;
 mod compare_cells;
+mod comparison;
 mod cut;
 mod faces;
 mod floats;
+mod leaves;
 mod limits;
+mod lists;
+mod marked;
 mod ours;
 mod outlines;
 mod overlap;
@@ -27,6 +30,7 @@ mod refusals;
 mod retold;
 mod scale;
 mod shapes;
+mod short;
 mod shrink;
 mod tally;
 mod turning;
@@ -35,6 +39,9 @@ mod work;
 
 use std::process::ExitCode;
 
+use all::COMPARISONS;
+use comparison::Comparison;
+
 /// How a command ended: everything was equal, or something was not.
 pub enum Outcome {
     Equal,
@@ -42,10 +49,10 @@ pub enum Outcome {
 }
 
 impl Outcome {
-    fn of(different: usize) -> Outcome {
-        match different {
-            0 => Outcome::Equal,
-            _ => Outcome::Different,
+    fn of(equal: bool) -> Outcome {
+        match equal {
+            true => Outcome::Equal,
+            false => Outcome::Different,
         }
     }
 }
@@ -53,92 +60,58 @@ impl Outcome {
 /// A command takes the words after its name, and says why when it cannot run.
 type Command = fn(&[String]) -> Result<Outcome, String>;
 
+/// What there is beside the comparisons.
 const COMMANDS: &[(&str, Command, &str)] = &[
     (
-        "floats",
-        floats::run,
-        "                      the f64 leaves against the machine",
-    ),
-    (
-        "cut",
-        cut::run,
-        "[N] [SEED] [VERTICES]    N random faces, each over at most VERTICES vertices",
-    ),
-    (
-        "cells",
-        compare_cells::run,
-        "[N] [SEED]             N random cells, and damaged copies of them",
+        "all",
+        all::run,
+        "[N] [SEED]      every comparison in turn, with N hundredths of its own count",
     ),
     (
         "check-cells",
         check_cells::run,
-        "[N] [SEED]       the random cells and the damaged copies themselves",
-    ),
-    #[cfg(feature = "newer")]
-    (
-        "shapes",
-        shapes::run,
-        "[N] [SEED]            N random tetrahedra, wedges and hexahedra",
-    ),
-    #[cfg(feature = "newer")]
-    (
-        "turning",
-        turning::run,
-        "[N] [SEED]           N random cells, and damaged copies: convexity, outward faces, planes",
-    ),
-    #[cfg(feature = "newer")]
-    (
-        "clip",
-        clip::run,
-        "[N] [SEED]              N random faces by planes, and N planar pairs",
-    ),
-    #[cfg(feature = "newer")]
-    (
-        "overlap",
-        overlap::run,
-        "[N] [SEED]           N random pairs of cells, and the unmodified Rust beside",
+        "[N] [SEED]      the random cells and the damaged copies themselves",
     ),
     (
-        "bench-cut",
-        bench_cut::run,
-        "                   times of the cut of faces of different sizes",
-    ),
-    (
-        "bench-cells",
-        bench_cells::run,
-        "                 times of the entries on a cell",
-    ),
-    #[cfg(feature = "newer")]
-    (
-        "bench-clip",
-        bench_clip::run,
-        "                  times of clipping, overlaps, turning and the fixed shapes",
+        "bench",
+        bench::run,
+        "[WORD]          times of every entry, or of those that a word is part of",
     ),
 ];
 
 fn main() -> ExitCode {
     let words: Vec<String> = std::env::args().skip(1).collect();
-    let command = words
-        .first()
-        .and_then(|name| COMMANDS.iter().find(|(known, ..)| known == name));
-    let Some((_, run, _)) = command else {
-        print_usage();
-        return ExitCode::from(2);
-    };
-    match run(&words[1..]) {
-        Ok(Outcome::Equal) => ExitCode::SUCCESS,
-        Ok(Outcome::Different) => ExitCode::FAILURE,
-        Err(reason) => {
+    match run(&words) {
+        None => {
+            print_usage();
+            ExitCode::from(2)
+        }
+        Some(Ok(Outcome::Equal)) => ExitCode::SUCCESS,
+        Some(Ok(Outcome::Different)) => ExitCode::FAILURE,
+        Some(Err(reason)) => {
             eprintln!("compare: {reason}");
             ExitCode::from(2)
         }
     }
 }
 
+/// Runs what the first word names, if it names anything.
+fn run(words: &[String]) -> Option<Result<Outcome, String>> {
+    let (name, words) = words.split_first()?;
+    if let Some(comparison) = COMPARISONS.iter().find(|known| known.name == name) {
+        return Some(comparison.run(words));
+    }
+    let (_, run, _) = COMMANDS.iter().find(|(known, ..)| known == name)?;
+    Some(run(words))
+}
+
 fn print_usage() {
     eprintln!("usage:");
     for (name, _, help) in COMMANDS {
-        eprintln!("  compare {name} {help}");
+        eprintln!("  compare {name:11} {help}");
+    }
+    for Comparison { name, what, .. } in &COMPARISONS {
+        eprintln!("  compare {name:11} [N] [SEED]      {what}");
     }
 }
 

@@ -1,24 +1,31 @@
 //! The port's functions, by the C names of its static library: `wegrusamt_` and the name here.
 //!
-//! A slice passes as a pointer and then a length in elements. Every entry takes any input, so the
-//! functions below are safe: each pointer and length come from one slice that outlives the call,
-//! and no two of them overlap where one is lent for writing.
+//! A slice passes as a pointer and then a length in elements, a point or a plane as its numbers. Every
+//! entry takes any input, so the functions below are safe: each pointer and length come from one slice
+//! that outlives the call, and no two of them overlap where one is lent for writing.
 
 use crate::cells::Cell;
 
 /// Entries that answer a refusal's number, or 0. Each argument is named by what it is here.
 macro_rules! entries {
     ($($name:ident($($arguments:tt)*);)*) => { $(
-        entry! { $name [] [] [] $($arguments)*, }
+        entry! { $name u8 [] [] [] $($arguments)*, }
+    )* };
+}
+
+/// Entries that answer a value and refuse nothing.
+macro_rules! leaves {
+    ($($name:ident($($arguments:tt)*) -> $answer:ident;)*) => { $(
+        entry! { $name $answer [] [] [] $($arguments)*, }
     )* };
 }
 
 /// One entry. Each rule takes one argument off the list and adds what it is in Rust, what it is in
 /// C, and what passes; the last rule writes the function.
 macro_rules! entry {
-    ($name:ident [$($rust:tt)*] [$($c:tt)*] [$($passed:tt)*] $cell:ident: Cell, $($rest:tt)*) => {
+    ($name:ident $answer:ident [$($rust:tt)*] [$($c:tt)*] [$($passed:tt)*] $cell:ident: Cell, $($rest:tt)*) => {
         entry! {
-            $name [$($rust)* $cell: &Cell,]
+            $name $answer [$($rust)* $cell: &Cell,]
             [$($c)* _: *const f64, _: usize, _: *const u32, _: usize, _: *const u32, _: usize,]
             [$($passed)*
                 $cell.coords.as_ptr(), $cell.coords.len(),
@@ -28,43 +35,59 @@ macro_rules! entry {
             $($rest)*
         }
     };
-    ($name:ident [$($rust:tt)*] [$($c:tt)*] [$($passed:tt)*] $point:ident: Point, $($rest:tt)*) => {
+    ($name:ident $answer:ident [$($rust:tt)*] [$($c:tt)*] [$($passed:tt)*] $numbers:ident: Point2, $($rest:tt)*) => {
         entry! {
-            $name [$($rust)* $point: [f64; 3],]
-            [$($c)* _: f64, _: f64, _: f64,]
-            [$($passed)* $point[0], $point[1], $point[2],]
+            $name $answer [$($rust)* $numbers: [f64; 2],]
+            [$($c)* _: f64, _: f64,]
+            [$($passed)* $numbers[0], $numbers[1],]
             $($rest)*
         }
     };
-    ($name:ident [$($rust:tt)*] [$($c:tt)*] [$($passed:tt)*] $list:ident: &[$kind:ty], $($rest:tt)*) => {
+    ($name:ident $answer:ident [$($rust:tt)*] [$($c:tt)*] [$($passed:tt)*] $numbers:ident: Point, $($rest:tt)*) => {
         entry! {
-            $name [$($rust)* $list: &[$kind],]
+            $name $answer [$($rust)* $numbers: [f64; 3],]
+            [$($c)* _: f64, _: f64, _: f64,]
+            [$($passed)* $numbers[0], $numbers[1], $numbers[2],]
+            $($rest)*
+        }
+    };
+    ($name:ident $answer:ident [$($rust:tt)*] [$($c:tt)*] [$($passed:tt)*] $numbers:ident: Plane, $($rest:tt)*) => {
+        entry! {
+            $name $answer [$($rust)* $numbers: [f64; 4],]
+            [$($c)* _: f64, _: f64, _: f64, _: f64,]
+            [$($passed)* $numbers[0], $numbers[1], $numbers[2], $numbers[3],]
+            $($rest)*
+        }
+    };
+    ($name:ident $answer:ident [$($rust:tt)*] [$($c:tt)*] [$($passed:tt)*] $list:ident: &[$kind:ty], $($rest:tt)*) => {
+        entry! {
+            $name $answer [$($rust)* $list: &[$kind],]
             [$($c)* _: *const $kind, _: usize,]
             [$($passed)* $list.as_ptr(), $list.len(),]
             $($rest)*
         }
     };
-    ($name:ident [$($rust:tt)*] [$($c:tt)*] [$($passed:tt)*] $list:ident: &mut [$kind:ty], $($rest:tt)*) => {
+    ($name:ident $answer:ident [$($rust:tt)*] [$($c:tt)*] [$($passed:tt)*] $list:ident: &mut [$kind:ty], $($rest:tt)*) => {
         entry! {
-            $name [$($rust)* $list: &mut [$kind],]
+            $name $answer [$($rust)* $list: &mut [$kind],]
             [$($c)* _: *mut $kind, _: usize,]
             [$($passed)* $list.as_mut_ptr(), $list.len(),]
             $($rest)*
         }
     };
-    ($name:ident [$($rust:tt)*] [$($c:tt)*] [$($passed:tt)*] $number:ident: $kind:ident, $($rest:tt)*) => {
+    ($name:ident $answer:ident [$($rust:tt)*] [$($c:tt)*] [$($passed:tt)*] $number:ident: $kind:ident, $($rest:tt)*) => {
         entry! {
-            $name [$($rust)* $number: $kind,]
+            $name $answer [$($rust)* $number: $kind,]
             [$($c)* _: $kind,]
             [$($passed)* $number,]
             $($rest)*
         }
     };
-    ($name:ident [$($rust:tt)*] [$($c:tt)*] [$($passed:tt)*]) => {
-        pub fn $name($($rust)*) -> u8 {
+    ($name:ident $answer:ident [$($rust:tt)*] [$($c:tt)*] [$($passed:tt)*]) => {
+        pub fn $name($($rust)*) -> $answer {
             unsafe extern "C" {
                 #[link_name = concat!("wegrusamt_", stringify!($name))]
-                fn entry($($c)*) -> u8;
+                fn entry($($c)*) -> $answer;
             }
             // SAFETY: see the head of this file.
             unsafe { entry($($passed)*) }
@@ -84,6 +107,7 @@ entries! {
     point_in_phed(coords: &[f64], list: &[u32], query: Point, out: &mut [usize]);
     triangles(cell: Cell, face: u32, out: &mut [[u32; 3]], count: &mut [usize]);
     survey(cell: Cell, queries: &[f64], counts: &mut [usize], volume: &mut [f64]);
+    describe(cell: Cell, shape: u8, out: &mut [usize]);
     is_convex(cell: Cell, shape: u8, out: &mut [usize]);
     into_ccw(coords: &[f64], corners: &mut [u32], ends: &[u32]);
 }
@@ -130,29 +154,20 @@ entries! {
     );
 }
 
-/// Cuts a face, as the only one of a cell: writes its triangles to the front of `out` and says how
-/// many they are, or which refusal it met.
-pub fn cut_face(coords: &[f64], face: &[u32], out: &mut [[u32; 3]]) -> Result<usize, u8> {
-    let mut count = [0];
-    match triangles(&Cell::of_one_face(coords, face), 0, out, &mut count) {
-        0 => Ok(count[0]),
-        refusal => Err(refusal),
-    }
+// Numbers only, any bits.
+entries! {
+    project2(point: Point, axis: usize, out: &mut [f64]);
+    segment_intersection(a: Point2, b: Point2, p: Point2, q: Point2, out: &mut [f64]);
+    segment_plane_intersection(a: Point, b: Point, da: f64, db: f64, out: &mut [f64]);
+}
+leaves! {
+    cross2(a: Point2, b: Point2, c: Point2) -> f64;
+    dominant_axis(normal: Point) -> usize;
+    plane_same_side(a: Plane, b: Plane, tolerance: f64) -> u8;
+    plane_coplanar_opposite(a: Plane, b: Plane, tolerance: f64) -> u8;
 }
 
-/// The leaves on f64. They take numbers only.
-macro_rules! leaves {
-    ($($name:ident($($arg:ident: $kind:ty),*) -> $answer:ty;)*) => { $(
-        pub fn $name($($arg: $kind),*) -> $answer {
-            unsafe extern "C" {
-                #[link_name = concat!("wegrusamt_", stringify!($name))]
-                safe fn leaf($($arg: $kind),*) -> $answer;
-            }
-            leaf($($arg),*)
-        }
-    )* };
-}
-
+// The leaves on f64.
 leaves! {
     magnitude(x: f64) -> f64;
     least(a: f64, b: f64) -> f64;

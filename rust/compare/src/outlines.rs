@@ -5,17 +5,26 @@ use crate::faces;
 use crate::limits::{BAD_NUMBERS, MOST_POINTS};
 use crate::random::Random;
 use crate::scale::Scale;
+use crate::shrink::{Input, Shrink, in_groups, within};
 
 /// A subject and the outline that clips it, two numbers a point.
+#[derive(Clone)]
 pub struct Pair {
     pub subject: Vec<f64>,
     pub clip: Vec<f64>,
 }
 
-impl Pair {
-    pub fn print(&self) {
+impl Input for Pair {
+    fn print(&self) {
         print_list("subject", "f64", &self.subject);
         print_list("clip", "f64", &self.clip);
+    }
+}
+
+impl Shrink for Pair {
+    fn shrink(&mut self, fails: &mut dyn FnMut(&Pair) -> bool) {
+        within(self, |pair| &mut pair.subject, in_groups::<2>, fails);
+        within(self, |pair| &mut pair.clip, in_groups::<2>, fails);
     }
 }
 

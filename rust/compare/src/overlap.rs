@@ -2,14 +2,14 @@
 //! unmodified Rust says of the same pairs.
 
 use crate::beside::Beside;
-use crate::calls::{Calls, Lent};
+use crate::calls::{Calls, Given};
 use crate::cells::{self, Cell};
+use crate::comparison::{Compared, ask};
 use crate::pairs::{self, Pair, Size};
 use crate::random::Random;
 use crate::retold::{self, Overlap};
-use crate::tally::Tally;
-use crate::work::{Entry, Expected, Work};
-use crate::{Outcome, count_and_seed, ours, refusals};
+use crate::work::{Choice, Entry, Expected, Work, beside_the_limit};
+use crate::{ours, refusals};
 
 const VOLUME: Entry = Entry {
     name: "convex_intersection_volume",
@@ -17,79 +17,45 @@ const VOLUME: Entry = Entry {
     values: 1,
 };
 
-pub fn run(words: &[String]) -> Result<Outcome, String> {
-    let (count, seed) = count_and_seed(words, 100_000)?;
-    let mut random = Random::new(seed);
-    let mut compared = Compared::new();
+/// Asks about random pairs of cells, and about damaged copies of every fourth.
+pub fn compare(calls: &mut Calls, count: u64, seed: u64) -> Compared {
+    let random = &mut Random::new(seed);
+    let mut unmodified = ["pairs not shrunk", "shrunk pairs"].map(Beside::new);
     for _ in 0..count {
-        compared.add(&mut random);
-    }
-    println!("{count} pairs, seed {seed}; one in four damaged as well");
-    compared.print();
-    Ok(compared.calls.outcome())
-}
-
-struct Compared {
-    calls: Calls,
-    kinds: Tally,
-    sizes: Tally,
-    found: Tally,
-    /// For pairs of any other size, and for those that are shrunk.
-    beside: [Beside; 2],
-}
-
-impl Compared {
-    fn new() -> Self {
-        Compared {
-            calls: Calls::default(),
-            kinds: Tally::new("kind"),
-            sizes: Tally::new("size"),
-            found: Tally::new("found"),
-            beside: ["pairs not shrunk", "shrunk pairs"].map(Beside::new),
-        }
-    }
-
-    /// A random pair, and now and then a damaged copy of it.
-    fn add(&mut self, random: &mut Random) {
-        let mut pair = pairs::any(random);
-        self.kinds.add(pair.kind);
-        self.sizes.add(pair.size);
-        self.pair(&pair, random);
+        let Pair { kind, size, cells } = pairs::any(random);
+        calls.count("kind", kind);
+        calls.count("size", size);
+        let beside = &mut unmodified[usize::from(matches!(size, Size::Shrunk))];
+        let mut by_the_rust = |cells: &[Cell; 2]| beside.add(kind, cells);
+        let choice = beside_the_limit;
+        ask(calls, &cells, random, of_two(choice, &mut by_the_rust))?;
         if random.once_in(4) {
-            pair.cells = damaged(pair.cells, random);
-            self.pair(&pair, random);
+            let cells = damaged(cells, random);
+            ask(calls, &cells, random, of_two(choice, &mut by_the_rust))?;
         }
     }
+    println!("the unmodified Rust beside the rule for hypot, where no refusal is given:");
+    unmodified.iter().for_each(Beside::print);
+    Ok(())
+}
 
-    fn pair(&mut self, pair: &Pair, random: &mut Random) {
-        let Compared {
-            calls,
-            found,
-            beside,
-            ..
-        } = self;
-        let beside = &mut beside[usize::from(matches!(pair.size, Size::Shrunk))];
-        let [first, second] = &pair.cells;
-        let compare = |calls: &mut Calls| {
-            let expected = expected(pair, calls, found, beside);
-            VOLUME.ask(calls, &expected, random, |one, two, out| {
-                ours::convex_intersection_volume(first, second, one, two, out)
-            });
-        };
-        calls.with_input(compare, || {
-            println!("// the first cell, then the second");
-            pair.cells.iter().for_each(Cell::print);
+/// How the overlap of two cells is compared, with lists as they are chosen.
+pub fn of_two(
+    choice: Choice,
+    mut by_the_rust: impl FnMut(&[Cell; 2]) -> f64,
+) -> impl FnMut(&mut Calls, &[Cell; 2], &mut Random) {
+    move |calls, cells, random| {
+        let expected = expected(cells, calls, &mut by_the_rust);
+        VOLUME.ask(calls, &expected, choice, random, |first, second, out| {
+            ours::convex_intersection_volume(&cells[0], &cells[1], first, second, out)
         });
     }
+}
 
-    fn print(&self) {
-        for tally in [&self.kinds, &self.sizes, &self.found] {
-            tally.print();
-        }
-        println!("the unmodified Rust beside the rule for hypot, where no refusal is given:");
-        self.beside.iter().for_each(Beside::print);
-        self.calls.print();
-    }
+/// The overlap by the Rust with document 01's rule for hypot.
+pub fn by_the_ruled(cells: &[Cell; 2]) -> f64 {
+    let [first, second] = cells.each_ref().map(Cell::for_the_rust);
+    oracle::ruled::convex_intersection_volume(first, second)
 }
 
 /// A pair of which one cell or both are damaged.
@@ -107,21 +73,20 @@ fn damaged(cells: [Cell; 2], random: &mut Random) -> [Cell; 2] {
 
 /// What the pair must give, told again and held to the Rust, and counted.
 fn expected(
-    pair: &Pair,
+    cells: &[Cell; 2],
     calls: &mut Calls,
-    found: &mut Tally,
-    beside: &mut Beside,
+    by_the_rust: &mut impl FnMut(&[Cell; 2]) -> f64,
 ) -> Expected<f64> {
-    let [first, second] = &pair.cells;
+    let [first, second] = cells;
     let refusal = refusals::of_cell(first, true).or_else(|| refusals::of_cell(second, true));
     if let Some(number) = refusal {
         return Err(number);
     }
     let told = retold::overlap(first, second);
-    found.add(Found::of(&told));
+    calls.count("overlaps", Found::of(&told));
     if !told.is_too_long() {
-        let by_the_rust = beside.add(pair);
-        calls.expect(told.volume.same(by_the_rust), "overlap told again");
+        let same = told.volume.same(by_the_rust(cells));
+        calls.expect(same, VOLUME.name, "told again is not what the Rust says");
     }
     Ok(Work {
         most: told.most,
@@ -154,5 +119,51 @@ impl Found {
         } else {
             Found::NoNumber
         }
+    }
+}
+
+#[cfg(test)]
+mod tests {
+    use super::*;
+    use crate::comparison::tests::smallest_of;
+
+    fn any(random: &mut Random) -> [Cell; 2] {
+        pairs::any(random).cells
+    }
+
+    /// An overlap that leaves a work list as it was when it finds nothing to clip.
+    #[test]
+    fn a_list_that_is_not_cleared_shrinks_to_cells_of_no_face() {
+        let small = smallest_of(any, |calls, cells, random| {
+            let expected = expected(cells, calls, &mut by_the_ruled);
+            let choice = beside_the_limit;
+            VOLUME.ask(calls, &expected, choice, random, |first, second, out| {
+                let before = first.to_vec();
+                let [one, two] = cells;
+                let answer = ours::convex_intersection_volume(one, two, first, second, out);
+                if answer == 0 && out[0] == 0.0 {
+                    first.copy_from_slice(&before);
+                }
+                answer
+            });
+        });
+        for cell in small {
+            assert_eq!(cell.coords, [0.0; 3]);
+            assert!(cell.ends.is_empty());
+        }
+    }
+
+    /// An overlap of the first cell with itself.
+    #[test]
+    fn a_wrong_volume_is_found_and_shrinks_to_few_corners() {
+        let small = smallest_of(any, |calls, cells, random| {
+            let expected = expected(cells, calls, &mut by_the_ruled);
+            let choice = beside_the_limit;
+            VOLUME.ask(calls, &expected, choice, random, |first, second, out| {
+                ours::convex_intersection_volume(&cells[0], &cells[0], first, second, out)
+            });
+        });
+        let corners = small.iter().map(|cell| cell.corners.len());
+        assert!(corners.sum::<usize>() <= 24);
     }
 }

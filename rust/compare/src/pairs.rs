@@ -7,6 +7,7 @@ use crate::cells::{self, Cell};
 use crate::random::Random;
 use crate::retold::reach;
 use crate::scale::{Scale, shrink};
+use crate::shrink::Input;
 use crate::vectors::{Vector, cross, difference, dot, scaled, sum, unit};
 
 /// Two cells and how they were made.
@@ -14,6 +15,13 @@ pub struct Pair {
     pub kind: Kind,
     pub size: Size,
     pub cells: [Cell; 2],
+}
+
+impl Input for [Cell; 2] {
+    fn print(&self) {
+        self[0].print_as("first_");
+        self[1].print_as("second_");
+    }
 }
 
 /// How the two cells lie to each other.

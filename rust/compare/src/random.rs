@@ -1,5 +1,6 @@
 //! A small generator of random numbers, the same on every machine for the same seed.
 
+#[derive(Clone)]
 pub struct Random {
     state: u64,
 }
@@ -7,6 +8,11 @@ pub struct Random {
 impl Random {
     pub fn new(seed: u64) -> Self {
         Random { state: seed }
+    }
+
+    /// A generator of its own. However much is drawn from it, this one goes on in the same way.
+    pub fn fork(&mut self) -> Random {
+        Random::new(self.bits())
     }
 
     /// The next 64 random bits (splitmix64).

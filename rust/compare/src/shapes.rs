@@ -6,18 +6,19 @@ use oracle::plain as rust;
 
 use crate::calls::{Calls, print_list, unless_refused};
 use crate::cells;
+use crate::comparison::{Compared, ask};
 use crate::faces::any_float;
+use crate::ours;
 use crate::random::Random;
-use crate::tally::Tally;
+use crate::shrink::{Input, Shrink, in_groups, within};
 use crate::vectors::{Vector, scaled, sum};
-use crate::{Outcome, count_and_seed, ours};
 
 /// Query points a shape.
 const QUERIES: usize = 3;
 
 /// A fixed shape: its entries, and the faces on which queries are put.
-struct Form {
-    corners: usize,
+pub struct Form {
+    pub corners: usize,
     volume: &'static str,
     contains: &'static str,
     ours_volume: fn(&[f64], &mut [f64]) -> u8,
@@ -25,7 +26,7 @@ struct Form {
     rust_volume: fn(&[Vector]) -> f64,
     rust_contains: fn(&[Vector], Vector) -> bool,
     /// A shape of this kind that is as it should be.
-    solid: fn(&mut Random) -> Vec<Vector>,
+    pub solid: fn(&mut Random) -> Vec<Vector>,
     faces: &'static [&'static [usize]],
 }
 
@@ -53,7 +54,7 @@ macro_rules! form {
     };
 }
 
-const FORMS: [Form; 3] = [
+pub const FORMS: [Form; 3] = [
     form!(
         4 tet_volume tet_contains any_tetrahedron,
         [0, 1, 3], [1, 2, 3], [2, 0, 3], [0, 2, 1]
@@ -84,56 +85,63 @@ fn any_hexahedron(random: &mut Random) -> Vec<Vector> {
     cell.points().to_vec()
 }
 
-pub fn run(words: &[String]) -> Result<Outcome, String> {
-    let (count, seed) = count_and_seed(words, 300_000)?;
-    let mut random = Random::new(seed);
-    let mut calls = Calls::default();
-    let mut kinds = Tally::new("kind");
-    let mut inside = Tally::new("query points inside");
+/// Asks about random shapes of each form.
+pub fn compare(calls: &mut Calls, count: u64, seed: u64) -> Compared {
+    let random = &mut Random::new(seed);
     for _ in 0..count {
         let kind = random.pick(&KINDS);
-        kinds.add(kind);
+        calls.count("kind", kind);
         let form = &FORMS[random.below(FORMS.len())];
-        compare_shape(&mut calls, &mut inside, form, kind, &mut random);
+        let points = kind.points(form, random);
+        let queries = (0..QUERIES).map(|_| any_query(form, &points, random));
+        let queries = queries.collect();
+        let numbers = any_numbers(&points, random);
+        ask(calls, &Solid { numbers, queries }, random, of_form(form))?;
     }
-    println!("{count} shapes of {QUERIES} queries, seed {seed}");
-    kinds.print();
-    inside.print();
-    calls.print();
-    Ok(calls.outcome())
+    Ok(())
 }
 
-fn compare_shape(
-    calls: &mut Calls,
-    inside: &mut Tally,
-    form: &Form,
-    kind: Kind,
-    random: &mut Random,
-) {
-    let points = kind.points(form, random);
-    let queries = [(); QUERIES].map(|()| any_query(form, &points, random));
-    let numbers = any_numbers(&points, random);
-    let refusal = (numbers.len() != 3 * form.corners).then_some(1);
-    let compare = |calls: &mut Calls| {
-        let volume = unless_refused(refusal, || vec![(form.rust_volume)(&points)]);
+/// The numbers of a fixed shape's points, and the points that are asked about.
+#[derive(Clone)]
+pub struct Solid {
+    pub numbers: Vec<f64>,
+    pub queries: Vec<Vector>,
+}
+
+impl Input for Solid {
+    fn print(&self) {
+        print_list("points", "f64", &self.numbers);
+        print_list("queries", "[f64; 3]", &self.queries);
+    }
+}
+
+impl Shrink for Solid {
+    fn shrink(&mut self, fails: &mut dyn FnMut(&Solid) -> bool) {
+        within(self, |solid| &mut solid.queries, Vec::shrink, fails);
+        within(self, |solid| &mut solid.numbers, in_groups::<3>, fails);
+    }
+}
+
+/// How a shape is compared as one of a form.
+pub fn of_form(form: &Form) -> impl Fn(&mut Calls, &Solid, &mut Random) {
+    move |calls, Solid { numbers, queries }, random| {
+        let refusal = (numbers.len() != 3 * form.corners).then_some(1);
+        let points = numbers.as_chunks::<3>().0;
+        let volume = unless_refused(refusal, || vec![(form.rust_volume)(points)]);
         calls.asked(form.volume, 1, volume, random, |out| {
-            (form.ours_volume)(&numbers, out)
+            (form.ours_volume)(numbers, out)
         });
-        for query in queries {
+        for &query in queries {
             let contained = unless_refused(refusal, || {
-                let is_in = (form.rust_contains)(&points, query);
-                inside.add(is_in);
+                let is_in = (form.rust_contains)(points, query);
+                calls.count("query points inside", is_in);
                 vec![usize::from(is_in)]
             });
             calls.asked(form.contains, 1, contained, random, |out| {
-                (form.ours_contains)(&numbers, query, out)
+                (form.ours_contains)(numbers, query, out)
             });
         }
-    };
-    calls.with_input(compare, || {
-        print_list("points", "f64", &numbers);
-        print_list("queries", "[f64; 3]", &queries);
-    });
+    }
 }
 
 /// The points' numbers; now and then some are lost, or there are too many.
@@ -269,4 +277,36 @@ fn any_mean(points: &[Vector], random: &mut Random) -> Vector {
     parts.fold([0.0; 3], |mean, (&point, weight)| {
         sum(mean, scaled(point, weight / all))
     })
+}
+
+#[cfg(test)]
+mod tests {
+    use super::*;
+    use crate::comparison::tests::smallest_of;
+
+    /// A volume without its sign.
+    fn magnitude(numbers: &[f64], out: &mut [f64]) -> u8 {
+        let answer = ours::hex_volume(numbers, out);
+        if answer == 0 {
+            out[0] = out[0].abs();
+        }
+        answer
+    }
+
+    #[test]
+    fn a_lost_sign_shrinks_to_a_plain_hexahedron() {
+        let wrong = Form {
+            ours_volume: magnitude,
+            ..FORMS[2]
+        };
+        let any = |random: &mut Random| Solid {
+            numbers: Kind::AnyPoints.points(&wrong, random).into_flattened(),
+            queries: vec![[0.5; 3]],
+        };
+        let small = smallest_of(any, of_form(&wrong));
+        assert!(small.queries.is_empty());
+        assert_eq!(small.numbers.len(), 24);
+        let is_plain = |value: &f64| [0.0, 1.0, -1.0].contains(value);
+        assert!(small.numbers.iter().all(is_plain));
+    }
 }

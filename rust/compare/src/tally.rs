@@ -5,7 +5,7 @@ use std::fmt::Debug;
 
 /// How often each kind came up. The title heads the printed list.
 pub struct Tally {
-    title: &'static str,
+    pub title: &'static str,
     counts: BTreeMap<String, usize>,
 }
 

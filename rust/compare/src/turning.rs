@@ -3,52 +3,33 @@
 
 use oracle::{Shape, plain as rust};
 
-use crate::calls::{Calls, same_lists, unless_refused};
+use crate::calls::{Calls, departure, unless_refused};
 use crate::cells::{self, Cell};
+use crate::comparison::{Compared, ask};
 use crate::random::Random;
 use crate::scale::shrink;
-use crate::tally::Tally;
-use crate::{Outcome, count_and_seed, ours, refusals};
+use crate::{ours, refusals};
 
-pub fn run(words: &[String]) -> Result<Outcome, String> {
-    let (count, seed) = count_and_seed(words, 200_000)?;
-    let mut calls = Calls::default();
-    let mut tallies = ["cells", "planes"].map(Tally::new);
-    cells::compare_many(count, seed, |cell, random| {
-        compare_cell(&mut calls, &mut tallies, cell, random);
+/// Asks about random cells, sound and damaged, and about shrunk copies.
+pub fn compare(calls: &mut Calls, count: u64, seed: u64) -> Compared {
+    cells::compare_many(calls, count, seed, |calls, cell, random| {
+        ask(calls, cell, random, compare_cell)?;
         if random.once_in(8) {
             let mut small = cell.clone();
             shrink(small.points_mut(), random);
-            compare_cell(&mut calls, &mut tallies, &small, random);
+            ask(calls, &small, random, compare_cell)?;
         }
-    });
-    for tally in &tallies {
-        tally.print();
+        Ok(())
+    })
+}
+
+pub fn compare_cell(calls: &mut Calls, cell: &Cell, random: &mut Random) {
+    for number in [0, 1, random.between(2, 255) as u8] {
+        description(calls, cell, number, random);
+        convexity(calls, cell, number, random);
     }
-    calls.print();
-    Ok(calls.outcome())
-}
-
-fn compare_cell(
-    calls: &mut Calls,
-    [cells, planes]: &mut [Tally; 2],
-    cell: &Cell,
-    random: &mut Random,
-) {
-    let compare = |calls: &mut Calls| {
-        convexity(calls, cells, cell, random);
-        outward(calls, cells, cell);
-        plane(calls, planes, cell, random);
-    };
-    calls.with_input(compare, || cell.print());
-}
-
-/// What a cell was found to be, for the counts.
-#[derive(Debug)]
-enum Found {
-    Convex,
-    Concave,
-    WithAFaceTurned,
+    outward(calls, cell);
+    planes(calls, cell, random);
 }
 
 /// What is known of the cell's shape by a number: 0, 1, or any other.
@@ -60,57 +41,71 @@ fn shape_of(number: u8) -> Shape {
     }
 }
 
-fn convexity(calls: &mut Calls, cells: &mut Tally, cell: &Cell, random: &mut Random) {
-    let refusal = refusals::of_cell(cell, false);
-    for number in [0, 1, random.between(2, 255) as u8] {
-        let expected = unless_refused(refusal, || {
-            let shape = shape_of(number);
-            let convex = rust::is_convex(cell.for_the_rust(), shape);
-            if shape == Shape::Unknown {
-                cells.add(if convex {
-                    Found::Convex
-                } else {
-                    Found::Concave
-                });
-            }
-            vec![usize::from(convex)]
-        });
-        calls.asked("is_convex", 1, expected, random, |out| {
-            ours::is_convex(cell, number, out)
-        });
-    }
+fn description(calls: &mut Calls, cell: &Cell, number: u8, random: &mut Random) {
+    let expected = unless_refused(refusals::of_cell(cell, false), || {
+        let counts = [cell.points().len(), cell.corners.len(), cell.ends.len()];
+        let shape = match shape_of(number) {
+            Shape::Convex => 0,
+            Shape::Concave => 1,
+            Shape::Unknown => 2,
+        };
+        [&counts[..], &[shape]].concat()
+    });
+    calls.asked("describe", 4, expected, random, |out| {
+        ours::describe(cell, number, out)
+    });
 }
 
-fn outward(calls: &mut Calls, cells: &mut Tally, cell: &Cell) {
+fn convexity(calls: &mut Calls, cell: &Cell, number: u8, random: &mut Random) {
+    let expected = unless_refused(refusals::of_cell(cell, false), || {
+        let shape = shape_of(number);
+        let convex = rust::is_convex(cell.for_the_rust(), shape);
+        if shape == Shape::Unknown {
+            calls.count("found convex", convex);
+        }
+        vec![usize::from(convex)]
+    });
+    calls.asked("is_convex", 1, expected, random, |out| {
+        ours::is_convex(cell, number, out)
+    });
+}
+
+fn outward(calls: &mut Calls, cell: &Cell) {
     let refusal = refusals::of_cell(cell, true);
     let wanted = match refusal {
         None => rust::into_ccw(cell.for_the_rust()),
         Some(_) => cell.corners.clone(),
     };
-    if wanted != cell.corners {
-        cells.add(Found::WithAFaceTurned);
+    if refusal.is_none() {
+        calls.count("faces turned", wanted != cell.corners);
     }
     let mut corners = cell.corners.clone();
     let answer = ours::into_ccw(&cell.coords, &mut corners, &cell.ends);
-    let right = same_lists(&corners, &wanted);
-    calls.held("into_ccw", answer, refusal.unwrap_or(0), right);
+    let departure = departure("corners", &corners, &wanted);
+    let lent = [corners.len()];
+    calls.held("into_ccw", &lent, answer, refusal.unwrap_or(0), departure);
 }
 
-/// The plane of a random face, and of one that is not there.
-fn plane(calls: &mut Calls, planes: &mut Tally, cell: &Cell, random: &mut Random) {
-    let faces = cell.ends.len();
-    let beyond = random.pick(&[faces as u32, faces as u32 + 1, u32::MAX]);
-    for face in [random.below(faces.max(1)) as u32, beyond] {
-        let refusal = refusals::of_face(cell, face).or_else(|| refusals::of_cell(cell, true));
-        let expected = unless_refused(refusal, || {
-            let plane = cell.plane(&cell.faces()[face as usize]);
-            planes.add(Parts::of(plane));
-            plane.to_vec()
-        });
-        calls.asked("plane_of_face", 4, expected, random, |out| {
-            ours::plane_of_face(cell, face, out)
-        });
+/// The planes of the first, the last and a random face, and of one that is not there.
+fn planes(calls: &mut Calls, cell: &Cell, random: &mut Random) {
+    let faces = cell.ends.len() as u32;
+    let any = random.below(faces.max(1) as usize) as u32;
+    let beyond = random.pick(&[faces, faces + 1, u32::MAX]);
+    for face in [0, any, faces.saturating_sub(1), beyond] {
+        plane(calls, cell, face, random);
     }
+}
+
+fn plane(calls: &mut Calls, cell: &Cell, face: u32, random: &mut Random) {
+    let refusal = refusals::of_face(cell, face).or_else(|| refusals::of_cell(cell, true));
+    let expected = unless_refused(refusal, || {
+        let plane = cell.plane(cell.face(face));
+        calls.count("planes", Parts::of(plane));
+        plane.to_vec()
+    });
+    calls.asked("plane_of_face", 4, expected, random, |out| {
+        ours::plane_of_face(cell, face, out)
+    });
 }
 
 /// What the parts of a plane are, for the counts.
@@ -130,5 +125,37 @@ impl Parts {
         } else {
             Parts::Finite
         }
+    }
+}
+
+#[cfg(test)]
+mod tests {
+    use super::*;
+    use crate::comparison::tests::smallest_of;
+
+    /// A turning that does nothing.
+    #[test]
+    fn a_turning_that_does_nothing_shrinks_to_one_face() {
+        let any = |random: &mut Random| cells::any(random).cell;
+        let small = smallest_of(any, |calls, cell, _| {
+            if refusals::of_cell(cell, true).is_none() {
+                let wanted = rust::into_ccw(cell.for_the_rust());
+                calls.gave("into_ccw", cell.corners != wanted, false);
+            }
+        });
+        assert_eq!((small.corners.len(), small.ends.len()), (3, 1));
+    }
+
+    #[test]
+    fn a_shape_that_is_not_heeded_is_found() {
+        let any = |random: &mut Random| cells::any(random).cell;
+        let small = smallest_of(any, |calls, cell, random| {
+            let expected = unless_refused(refusals::of_cell(cell, false), || vec![1]);
+            calls.asked("is_convex", 1, expected, random, |out| {
+                ours::is_convex(cell, 2, out)
+            });
+        });
+        assert!(!rust::compute_convexity(small.for_the_rust()));
+        assert_eq!(small.ends.len(), 1);
     }
 }

@@ -1,15 +1,15 @@
 //! Calls with two work lists: how long the lists are made, and what must stand in them afterwards.
 
-use crate::calls::{Calls, Lent, same_lists};
+use crate::calls::{BEYOND, Calls, Lent, departure};
 use crate::limits::LONGEST_WORK;
 use crate::random::Random;
 use crate::refusals;
 
-/// How often each input is asked about, each time with other lists.
+/// How often each input is asked about, each time with other random lists.
 const TIMES: usize = 3;
 
-/// Numbers after the lent ones, which a call never sees.
-const BEYOND: usize = 4;
+/// The longest of the work lists that are tried in every length.
+const SHORT: usize = 12;
 
 /// An entry that takes two work lists.
 pub struct Entry {
@@ -33,24 +33,29 @@ pub struct Work<T> {
 /// A refusal 1 to 5 that the inputs meet, or the work.
 pub type Expected<T> = Result<Work<T>, u8>;
 
+/// How long the lists are that a call is lent: the two work lists, and the places for its values.
+#[derive(Clone, Copy)]
+pub struct Lengths {
+    work: [usize; 2],
+    places: usize,
+}
+
+/// A way to choose lists for an entry and an input that needs so many numbers in each work list.
+pub type Choice = fn(&Entry, usize, &mut Random) -> Vec<Lengths>;
+
 impl Entry {
-    /// Asks some times, with lists of different lengths and now and then with too few places for the
-    /// values.
+    /// Asks with each of the chosen lists.
     pub fn ask<T: Lent>(
         &self,
         calls: &mut Calls,
         expected: &Expected<T>,
+        choice: Choice,
         random: &mut Random,
         mut call: impl FnMut(&mut [f64], &mut [f64], &mut [T]) -> u8,
     ) {
         let most = expected.as_ref().map_or(0, |work| work.most);
-        for _ in 0..TIMES {
-            let lengths = any_lengths(most * self.dimension, random);
-            let places = match random.below(16) {
-                0 => random.below(self.values),
-                _ => self.values + random.below(2),
-            };
-            self.ask_once(calls, expected, lengths, places, &mut call);
+        for lengths in choice(self, most * self.dimension, &mut random.fork()) {
+            self.ask_once(calls, expected, lengths, &mut call);
         }
     }
 
@@ -58,25 +63,25 @@ impl Entry {
         &self,
         calls: &mut Calls,
         expected: &Expected<T>,
-        lengths: [usize; 2],
-        places: usize,
+        Lengths { work, places }: Lengths,
         call: &mut impl FnMut(&mut [f64], &mut [f64], &mut [T]) -> u8,
     ) {
-        let mut lists = lengths.map(|length| marked(length + BEYOND));
-        let mut out = vec![T::MARK; places];
-        let [first, second] = &mut lists;
+        let [mut first, mut second] = work.map(|length| marked(length + BEYOND));
+        let mut out = vec![T::MARK; places + BEYOND];
         let answer = call(
-            &mut first[..lengths[0]],
-            &mut second[..lengths[1]],
-            &mut out,
+            &mut first[..work[0]],
+            &mut second[..work[1]],
+            &mut out[..places],
         );
 
-        let end = self.end(expected, lengths, places);
-        let mut values = vec![T::MARK; places];
+        let end = self.end(expected, work, places);
+        let mut values = vec![T::MARK; places + BEYOND];
         values[..end.values.len()].copy_from_slice(end.values);
-        let right = same_lists(&out, &values)
-            && (0..2).all(|list| same_lists(&lists[list], &end.stands.list(list, lengths[list])));
-        calls.held(self.name, answer, end.answer, right);
+        let departure = departure("out", &out, &values)
+            .or_else(|| departure("first", &first, &end.stands.list(0, work[0])))
+            .or_else(|| departure("second", &second, &end.stands.list(1, work[1])));
+        let lent = [work[0], work[1], places];
+        calls.held(self.name, &lent, answer, end.answer, departure);
     }
 
     /// How a call must end with work lists of these lengths and so many places for its values.
@@ -148,6 +153,34 @@ fn marked(length: usize) -> Vec<f64> {
     (0..length).map(mark).collect()
 }
 
+/// Some random lists, most of them beside the limit of room, and now and then with too few places for
+/// the values.
+pub fn beside_the_limit(entry: &Entry, needed: usize, random: &mut Random) -> Vec<Lengths> {
+    let any = |_| Lengths {
+        work: any_lengths(needed, random),
+        places: match random.below(16) {
+            0 => random.below(entry.values),
+            _ => entry.values + random.below(2),
+        },
+    };
+    (0..TIMES).map(any).collect()
+}
+
+/// Work lists of all short lengths, and once with each number of places that is too few.
+pub fn every_short(entry: &Entry, _needed: usize, _random: &mut Random) -> Vec<Lengths> {
+    let lengths = 0..=SHORT;
+    let pairs = lengths.flat_map(|one| (0..=SHORT).map(move |two| [one, two]));
+    let enough = pairs.map(|work| Lengths {
+        work,
+        places: entry.values,
+    });
+    let too_few = (0..entry.values).map(|places| Lengths {
+        work: [SHORT; 2],
+        places,
+    });
+    enough.chain(too_few).collect()
+}
+
 /// Lengths of two work lists for a call that needs so many numbers in each.
 fn any_lengths(needed: usize, random: &mut Random) -> [usize; 2] {
     let needed = needed.min(LONGEST_WORK);
@@ -180,7 +213,6 @@ fn any_length(needed: usize, random: &mut Random) -> usize {
 #[cfg(test)]
 mod tests {
     use super::*;
-    use crate::Outcome;
 
     const ENTRY: Entry = Entry {
         name: "test",
@@ -217,9 +249,15 @@ mod tests {
         let mut random = Random::new(1);
         let mut calls = Calls::default();
         for _ in 0..300 {
-            ENTRY.ask(&mut calls, &expected(), &mut random, &call);
+            ENTRY.ask(
+                &mut calls,
+                &expected(),
+                beside_the_limit,
+                &mut random,
+                &call,
+            );
         }
-        matches!(calls.outcome(), Outcome::Equal)
+        calls.first_fault().is_none()
     }
 
     #[test]

@@ -144,14 +144,21 @@ pub fn ray_crosses_face(point: [f64; 3], points: &[[f64; 3]], face: &[usize]) ->
 
 /// Whether a cell given as one corner list, in which 4,294,967,295 ends a face, contains the point.
 pub fn point_in_phed(point: [f64; 3], points: &[[f64; 3]], corners: &[u32]) -> bool {
-    let connectivity: Vec<usize> = corners
-        .iter()
-        .map(|&corner| match corner {
-            FACE_END => usize::MAX,
-            _ => corner as usize,
-        })
-        .collect();
-    super::point_in_phed(&point, points, &connectivity)
+    point_in_connected(point, points, &connectivity(corners))
+}
+
+/// Such a list in the Rust's own form, for callers that ask about it more than once.
+pub fn connectivity(corners: &[u32]) -> Vec<usize> {
+    let number = |&corner: &u32| match corner {
+        FACE_END => usize::MAX,
+        _ => corner as usize,
+    };
+    corners.iter().map(number).collect()
+}
+
+/// The same for a list in that form.
+pub fn point_in_connected(point: [f64; 3], points: &[[f64; 3]], connectivity: &[usize]) -> bool {
+    super::point_in_phed(&point, points, connectivity)
 }
 
 // Fixed shapes.

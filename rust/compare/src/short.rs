@@ -1,0 +1,401 @@
+//! `compare short`: every short input out of small sets, for every entry but those on f64 alone, by the
+//! port and by the Rust.
+
+use crate::calls::Calls;
+use crate::cells::{Cell, unit_cube};
+use crate::clip::{by_edges, by_planes};
+use crate::clips::Case;
+use crate::compare_cells::{Question, compare_question};
+use crate::comparison::{Compared, ask};
+use crate::leaves::{LEAVES, SPECIAL};
+use crate::limits::{FACE_END, LARGEST};
+use crate::lists::{Points, compare_in_space, compare_in_the_plane};
+use crate::marked::{self, Marked};
+use crate::outlines;
+use crate::overlap::{by_the_ruled, of_two};
+use crate::random::Random;
+use crate::shapes::{FORMS, Solid, of_form};
+use crate::turning::compare_cell;
+use crate::work::{beside_the_limit, every_short};
+
+/// Numbers inside the domain, at its limit, and outside.
+const NUMBERS: [f64; 7] = [
+    0.0,
+    1.0,
+    -1.0,
+    LARGEST,
+    LARGEST.next_up(),
+    f64::NAN,
+    f64::INFINITY,
+];
+
+/// A tetrahedron with a corner at the origin.
+const CORNER: [[f64; 3]; 4] = [
+    [0.0, 0.0, 0.0],
+    [1.0, 0.0, 0.0],
+    [0.0, 1.0, 0.0],
+    [0.0, 0.0, 1.0],
+];
+
+/// Its faces, seen from outside.
+const TETRAHEDRON: [[u32; 3]; 4] = [[0, 1, 3], [1, 2, 3], [2, 0, 3], [0, 2, 1]];
+
+/// Points inside the tetrahedron, outside and on a face of it.
+const QUERIES: [[f64; 3]; 3] = [[0.125, 0.25, 0.25], [0.5, 0.5, 0.5], [0.0, 0.25, 0.5]];
+
+/// All parts, so many times, each time with lent lists of other lengths.
+pub fn compare(calls: &mut Calls, times: u64, seed: u64) -> Compared {
+    let random = &mut Random::new(seed);
+    let parts = [
+        leaves,
+        lists_of_points,
+        corners_and_ends,
+        single_faces,
+        faces_of_a_tetrahedron,
+        coordinates,
+        queries,
+        lists_with_marks,
+        solids,
+        faces_by_planes,
+        planes_of_any_length,
+        outlines_by_edges,
+        pairs_of_cells,
+    ];
+    for _ in 0..times {
+        for part in parts {
+            part(calls, random)?;
+        }
+    }
+    Ok(())
+}
+
+/// Every list of so many items out of a set.
+fn lists_of<T: Copy>(length: usize, items: &[T]) -> impl Iterator<Item = Vec<T>> {
+    let count = items.len().pow(length as u32);
+    (0..count).map(move |number| {
+        let place = |digit: usize| number / items.len().pow(digit as u32) % items.len();
+        (0..length).map(|digit| items[place(digit)]).collect()
+    })
+}
+
+/// Every list of up to so many items out of a set, the short ones first.
+fn lists_up_to<T: Copy>(longest: usize, items: &[T]) -> impl Iterator<Item = Vec<T>> {
+    (0..=longest).flat_map(move |length| lists_of(length, items))
+}
+
+/// Leaves that take few numbers are asked about more different ones.
+fn leaves(calls: &mut Calls, random: &mut Random) -> Compared {
+    for leaf in &LEAVES {
+        let set = match leaf.takes {
+            0..=3 => &SPECIAL[..],
+            4..=6 => &SPECIAL[..7],
+            7..=8 => &SPECIAL[..5],
+            _ => &SPECIAL[..4],
+        };
+        for numbers in lists_of(leaf.takes, set) {
+            leaf.ask(calls, &numbers, random)?;
+        }
+    }
+    Ok(())
+}
+
+fn lists_of_points(calls: &mut Calls, random: &mut Random) -> Compared {
+    for numbers in lists_up_to(7, &NUMBERS) {
+        ask(calls, &Points(numbers.clone()), random, compare_in_space)?;
+        ask(calls, &Points(numbers), random, compare_in_the_plane)?;
+    }
+    Ok(())
+}
+
+/// All entries that take a whole cell.
+fn ask_cell(calls: &mut Calls, cell: Cell, queries: &[[f64; 3]], random: &mut Random) -> Compared {
+    ask(calls, &cell, random, compare_cell)?;
+    let queries = queries.to_vec();
+    ask(calls, &Question { cell, queries }, random, compare_question)
+}
+
+/// Up to four corners and up to two ends, sound or not, over four vertices and over three.
+fn corners_and_ends(calls: &mut Calls, random: &mut Random) -> Compared {
+    for vertices in [4, 3] {
+        let coords = CORNER[..vertices].as_flattened();
+        for corners in lists_up_to(4, &[0, 1, 2, 3, 4]) {
+            for ends in lists_up_to(2, &[0, 1, 2, 3, 4, 5]) {
+                let cell = Cell {
+                    coords: coords.to_vec(),
+                    corners: corners.clone(),
+                    ends,
+                };
+                ask_cell(calls, cell, &QUERIES[..1], random)?;
+            }
+        }
+    }
+    Ok(())
+}
+
+/// Faces of up to six corners over the corners of a square and its middle.
+fn single_faces(calls: &mut Calls, random: &mut Random) -> Compared {
+    let points = [&SQUARE[..], &[[1.0, 1.0, 0.0]]].concat();
+    for corners in lists_up_to(6, &[0, 1, 2, 3, 4]) {
+        let cell = Cell::of_one_face(points.as_flattened(), &corners);
+        ask_cell(calls, cell, &[], random)?;
+    }
+    Ok(())
+}
+
+/// Up to five faces of a tetrahedron, each from either side.
+fn faces_of_a_tetrahedron(calls: &mut Calls, random: &mut Random) -> Compared {
+    let inward = TETRAHEDRON.map(|[a, b, c]| [c, b, a]);
+    for faces in lists_up_to(5, &[TETRAHEDRON, inward].concat()) {
+        let faces: Vec<Vec<u32>> = faces.iter().map(|face| face.to_vec()).collect();
+        ask_cell(calls, Cell::new(&CORNER, &faces), &QUERIES, random)?;
+    }
+    Ok(())
+}
+
+/// Up to seven coordinates under one face, whose second corner names the second vertex. Seven are always
+/// too many or too few, so a smaller set will do for them.
+fn coordinates(calls: &mut Calls, random: &mut Random) -> Compared {
+    let up_to_six = lists_up_to(6, &NUMBERS);
+    for coords in up_to_six.chain(lists_of(7, &NUMBERS[..3])) {
+        let cell = Cell::of_one_face(&coords, &[0, 1, 0]);
+        ask_cell(calls, cell, &[], random)?;
+    }
+    Ok(())
+}
+
+/// Query points on a grid, and with numbers of every kind, about cells that are sound or refused.
+fn queries(calls: &mut Calls, random: &mut Random) -> Compared {
+    let grid = lists_of(3, &[-0.5, 0.0, 0.25, 0.5, 1.0]);
+    for query in grid.chain(lists_of(3, &NUMBERS)) {
+        let query = [query[0], query[1], query[2]];
+        for cell in small_cells() {
+            let queries = vec![query];
+            ask(calls, &Question { cell, queries }, random, compare_question)?;
+        }
+    }
+    Ok(())
+}
+
+fn lists_with_marks(calls: &mut Calls, random: &mut Random) -> Compared {
+    for list in lists_up_to(6, &[0, 1, 2, 3, 4, FACE_END]) {
+        let marked = Marked {
+            coords: CORNER.as_flattened().to_vec(),
+            list,
+            queries: QUERIES.to_vec(),
+        };
+        ask(calls, &marked, random, marked::compare)?;
+    }
+    Ok(())
+}
+
+/// The fixed shapes with each point as it should be or moved, and lists of every length about theirs.
+fn solids(calls: &mut Calls, random: &mut Random) -> Compared {
+    for form in &FORMS {
+        let points = (form.solid)(&mut Random::new(1));
+        let choices = match form.corners {
+            4 => &MOVED[..],
+            6 => &MOVED[..4],
+            _ => &MOVED[..3],
+        };
+        let moved = lists_of(form.corners, choices).map(|chosen| {
+            let pairs = points.iter().zip(chosen);
+            let numbers = pairs.flat_map(|(&point, other)| other.unwrap_or(point));
+            numbers.collect()
+        });
+        let of_any_length = (0..=25).map(|length| vec![0.5; length]);
+        for numbers in moved.chain(of_any_length) {
+            let queries = QUERIES.to_vec();
+            ask(calls, &Solid { numbers, queries }, random, of_form(form))?;
+        }
+    }
+    Ok(())
+}
+
+/// Where a point of a fixed shape is moved, if anywhere.
+const MOVED: [Option<[f64; 3]>; 8] = [
+    None,
+    Some([1.0, 1.0, 1.0]),
+    Some([0.0, 0.5, f64::NAN]),
+    Some([f64::INFINITY; 3]),
+    Some([0.0, 0.0, 0.0]),
+    Some([-1.0, 0.5, 0.0]),
+    Some([0.0, f64::NEG_INFINITY, -0.0]),
+    Some([1e300, -1e300, 1e-320]),
+];
+
+/// Planes that leave a square from 0 to 2 whole, cut it, touch it or leave nothing, and odd ones.
+const PLANES: [[f64; 4]; 9] = [
+    [1.0, 0.0, 0.0, 1.0],
+    [-1.0, -1.0, 0.0, -1.0],
+    [0.0, 1.0, 0.0, 2.0],
+    [0.0, -1.0, 0.0, -2.0],
+    [1.0, 0.0, 0.0, -1.0],
+    [0.0, 0.0, 1.0, 0.0],
+    [f64::NAN, 0.0, 0.0, 1.0],
+    [f64::INFINITY, f64::INFINITY, f64::INFINITY, 1.0],
+    [0.0, 0.0, 0.0, -1.0],
+];
+
+const SQUARE: [[f64; 3]; 4] = [
+    [0.0, 0.0, 0.0],
+    [2.0, 0.0, 0.0],
+    [2.0, 2.0, 0.0],
+    [0.0, 2.0, 0.0],
+];
+
+fn clip_case(corners: &[u32], planes: &[[f64; 4]], eps: f64) -> Case {
+    Case {
+        cell: Cell::of_one_face(SQUARE.as_flattened(), corners),
+        face: 0,
+        planes: planes.as_flattened().to_vec(),
+        eps,
+    }
+}
+
+/// Faces of up to four corners of a square by up to two planes; those in order also with work lists of
+/// every short length.
+fn faces_by_planes(calls: &mut Calls, random: &mut Random) -> Compared {
+    for planes in lists_up_to(2, &PLANES) {
+        for eps in [0.0, 0.5, -0.5, f64::NAN] {
+            for corners in lists_up_to(4, &[0, 1, 2, 3]) {
+                let case = clip_case(&corners, &planes, eps);
+                ask(calls, &case, random, by_planes(beside_the_limit))?;
+            }
+            for count in 0..=4 {
+                let case = clip_case(&[0, 1, 2, 3][..count], &planes, eps);
+                ask(calls, &case, random, by_planes(every_short))?;
+            }
+        }
+    }
+    Ok(())
+}
+
+/// Lists of planes that are in fours or not, for a face that is there or not.
+fn planes_of_any_length(calls: &mut Calls, random: &mut Random) -> Compared {
+    for length in 0..=12 {
+        for face in [0, 1, u32::MAX] {
+            for corners in [&[0, 1, 2][..], &[0, 1, 4]] {
+                let mut case = clip_case(corners, &[], 0.0);
+                case.planes = vec![0.5; length];
+                case.face = face;
+                ask(calls, &case, random, by_planes(every_short))?;
+            }
+        }
+    }
+    Ok(())
+}
+
+/// Outlines of up to four points by each other; those by a triangle and by a square also with work
+/// lists of every short length; and up to three numbers of any kind.
+fn outlines_by_edges(calls: &mut Calls, random: &mut Random) -> Compared {
+    let points = [[0.0, 0.0], [2.0, 0.0], [1.0, 1.0], [0.0, 2.0]];
+    let numbers = |outline: &[[f64; 2]]| outline.as_flattened().to_vec();
+    for subject in lists_up_to(4, &points) {
+        for clip in lists_up_to(4, &points) {
+            let (subject, clip) = (numbers(&subject), numbers(&clip));
+            let pair = outlines::Pair { subject, clip };
+            ask(calls, &pair, random, by_edges(beside_the_limit))?;
+        }
+        for edges in 0..=4 {
+            let (subject, clip) = (numbers(&subject), numbers(&points[..edges]));
+            let pair = outlines::Pair { subject, clip };
+            ask(calls, &pair, random, by_edges(every_short))?;
+        }
+    }
+    for subject in lists_up_to(3, &NUMBERS) {
+        for clip in lists_up_to(3, &NUMBERS) {
+            let subject = subject.clone();
+            let pair = outlines::Pair { subject, clip };
+            ask(calls, &pair, random, by_edges(beside_the_limit))?;
+        }
+    }
+    Ok(())
+}
+
+/// Cells of one face or two, solids that overlap, touch or miss, and one cell for each refusal.
+fn small_cells() -> Vec<Cell> {
+    let tetrahedron = Cell::new(&CORNER, &TETRAHEDRON.map(|face| face.to_vec()));
+    let cube = unit_cube();
+    let moved = [0.25, 0.5, 1.0, 2.0].map(|x| cube.clone().moved([x, 0.0, 0.0]));
+    let turned = cube.clone().with_points(|[x, y, z]| [y, x, z]);
+    let faces = [&[][..], &[0], &[0, 1], &[0, 1, 2], &[0, 2, 1, 3]];
+    let of_one_face = faces.map(|face| Cell::of_one_face(CORNER.as_flattened(), face));
+    let damage = |change: fn(&mut Cell)| {
+        let mut copy = tetrahedron.clone();
+        change(&mut copy);
+        copy
+    };
+    let refused = [
+        damage(|cell| cell.coords.truncate(11)),
+        damage(|cell| cell.coords.clear()),
+        damage(|cell| cell.coords[0] = f64::NAN),
+        damage(|cell| cell.ends[3] = 11),
+        damage(|cell| cell.ends[0] = 7),
+        damage(|cell| cell.corners[0] = 4),
+        damage(|cell| cell.ends.push(12)),
+    ];
+    let without_faces = Cell::new(&CORNER[..1], &[]);
+    let solids = [tetrahedron, cube, turned, without_faces];
+    [&solids[..], &moved, &of_one_face, &refused].concat()
+}
+
+/// Small cells with each other, also with work lists of every short length; then single faces of up to
+/// three corners with each other.
+fn pairs_of_cells(calls: &mut Calls, random: &mut Random) -> Compared {
+    for cells in pairs_of(&small_cells()) {
+        ask(calls, &cells, random, of_two(every_short, by_the_ruled))?;
+        ask(
+            calls,
+            &cells,
+            random,
+            of_two(beside_the_limit, by_the_ruled),
+        )?;
+    }
+    let faces: Vec<Cell> = lists_up_to(3, &[0, 1, 2, 3])
+        .map(|corners| Cell::of_one_face(CORNER.as_flattened(), &corners))
+        .collect();
+    for cells in pairs_of(&faces) {
+        ask(
+            calls,
+            &cells,
+            random,
+            of_two(beside_the_limit, by_the_ruled),
+        )?;
+    }
+    Ok(())
+}
+
+fn pairs_of(cells: &[Cell]) -> impl Iterator<Item = [Cell; 2]> {
+    let with_each = |one: &Cell| {
+        let one = one.clone();
+        cells.iter().map(move |two| [one.clone(), two.clone()])
+    };
+    cells.iter().flat_map(with_each)
+}
+
+#[cfg(test)]
+mod tests {
+    use super::*;
+    use crate::refusals;
+
+    #[test]
+    fn every_list_comes_once() {
+        let lists: Vec<Vec<u32>> = lists_up_to(3, &[7, 8, 9]).collect();
+        let different: std::collections::HashSet<&Vec<u32>> = lists.iter().collect();
+        assert_eq!(
+            (lists.len(), different.len()),
+            (1 + 3 + 9 + 27, lists.len())
+        );
+        assert_eq!((&lists[0], &lists[1]), (&vec![], &vec![7]));
+    }
+
+    #[test]
+    fn small_cells_meet_every_refusal() {
+        let mut met = [false; 6];
+        for cell in small_cells() {
+            let refusal = refusals::of_cell(&cell, true);
+            met[usize::from(refusal.unwrap_or(0))] = true;
+        }
+        assert_eq!(met, [true; 6]);
+    }
+}

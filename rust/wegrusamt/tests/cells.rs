@@ -398,7 +398,10 @@ fn planes_are_compared() {
 #[test]
 fn a_cell_is_described() {
     let cube = cube_at(0.0);
-    let described = cube.as_cell().describe(Shape::Convex).expect("the cube is sound");
+    let described = cube
+        .as_cell()
+        .describe(Shape::Convex)
+        .expect("the cube is sound");
     let counts = [described.points, described.corners, described.faces];
     assert_eq!(counts, [8, 24, 6]);
     assert_eq!(described.shape, Shape::Convex);

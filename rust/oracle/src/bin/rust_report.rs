@@ -26,7 +26,9 @@ impl Lists {
     /// The faces, each as its own stretch of the corners.
     fn faces(&self) -> impl Iterator<Item = &[u32]> {
         let starts = std::iter::once(0).chain(self.ends.iter().copied());
-        starts.zip(&self.ends).map(|(start, &end)| &self.corners[start as usize..end as usize])
+        starts
+            .zip(&self.ends)
+            .map(|(start, &end)| &self.corners[start as usize..end as usize])
     }
 
     /// Whether sides run from i to j as often as from j to i.
@@ -45,7 +47,11 @@ impl Lists {
 
     /// The line of the cell with a number.
     fn line(&self, number: usize, out: &mut impl Write) -> io::Result<()> {
-        let cell = Cell { points: &self.points, corners: &self.corners, ends: &self.ends };
+        let cell = Cell {
+            points: &self.points,
+            corners: &self.corners,
+            ends: &self.ends,
+        };
         let solid = plain::polyhedron(cell, Shape::Unknown);
         let (mut triangles, mut short) = (0, 0);
         for face in self.faces() {
@@ -58,7 +64,10 @@ impl Lists {
         let closed = if self.closed() { "yes" } else { "no" };
         let (vertices, faces) = (self.points.len(), self.ends.len());
         let bits = solid.volume().to_bits();
-        writeln!(out, "cell {number} v {vertices} f {faces} t {triangles} closed {closed} short {short} vol {bits:016X} in {inside}")
+        writeln!(
+            out,
+            "cell {number} v {vertices} f {faces} t {triangles} closed {closed} short {short} vol {bits:016X} in {inside}"
+        )
     }
 }
 
@@ -88,7 +97,9 @@ fn main() -> io::Result<()> {
             }
             5 => lists.queries.push(point(&record)),
             kind => {
-                eprintln!("rust_report: a record of kind {kind}; this program reads good streams only");
+                eprintln!(
+                    "rust_report: a record of kind {kind}; this program reads good streams only"
+                );
                 std::process::exit(2);
             }
         }

@@ -1,4 +1,4 @@
-// Comparing answers, and what stands in lent lists, with the stored words.
+// Comparing answers, and what stands in lent lists, with the stored words. Where fewer words are stored than compared, they differ.
 ghost use Prim.Native.Nat.{_≤_};
 ghost use lib.ListN.{length};
 use answers::words::part;
@@ -7,6 +7,9 @@ use answers::words::word;
 // Whether words are as stored.
 fn same_words(ws: &[u64], a: &[u64]) -> bool {
     let n = a.len();
+    if ws.len() < n {
+        return false;
+    }
     let mut i = 0;
     while i < n {
         if word(ws, i) != a[i] {
@@ -30,6 +33,9 @@ pub fn stored(q: &[u64]) -> &[u64] {
 // Whether every number of a list is as stored.
 pub fn same_numbers(ws: &[u64], xs: &[f64]) -> bool {
     let n = xs.len();
+    if ws.len() < n {
+        return false;
+    }
     let mut i = 0;
     while i < n {
         if word(ws, i) != floats::pattern(xs[i]) {
@@ -48,6 +54,9 @@ fn wide(c: u32) -> u64 {
 // Whether every corner of a list is as stored.
 pub fn same_corners(ws: &[u64], cs: &[u32]) -> bool {
     let n = cs.len();
+    if ws.len() < n {
+        return false;
+    }
     let mut i = 0;
     while i < n {
         if word(ws, i) != wide(cs[i]) {

@@ -12,6 +12,7 @@ same-corners-spec =
     (λ ws cs n i₀ i. n ≡ length cs)
     (λ ws cs n i₀ i. n - i)
     (λ c. search needs)
+    (λ c. search needs)
     (λ c κs. search needs)
     (λ c. search needs)
     (λ c. search needs)

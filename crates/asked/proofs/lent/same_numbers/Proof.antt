@@ -12,6 +12,7 @@ same-numbers-spec =
     (λ ws xs n i₀ i. n ≡ length xs)
     (λ ws xs n i₀ i. n - i)
     (λ c. search needs)
+    (λ c. search needs)
     (λ c κs. search needs)
     (λ c. search needs)
     (λ c. search needs)

@@ -12,6 +12,7 @@ same-words-spec =
     (λ ws a n i₀ i. n ≡ length a)
     (λ ws a n i₀ i. n - i)
     (λ c. search needs)
+    (λ c. search needs)
     (λ c κs. search needs)
     (λ c. search needs)
     (λ c. search needs)

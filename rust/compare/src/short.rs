@@ -342,25 +342,18 @@ fn small_cells() -> Vec<Cell> {
 /// Small cells with each other, also with work lists of every short length; then single faces of up to
 /// three corners with each other.
 fn pairs_of_cells(calls: &mut Calls, random: &mut Random) -> Compared {
+    let beside = |calls: &mut Calls, cells: &[Cell; 2], random: &mut Random| {
+        ask(calls, cells, random, of_two(beside_the_limit, by_the_ruled))
+    };
     for cells in pairs_of(&small_cells()) {
         ask(calls, &cells, random, of_two(every_short, by_the_ruled))?;
-        ask(
-            calls,
-            &cells,
-            random,
-            of_two(beside_the_limit, by_the_ruled),
-        )?;
+        beside(calls, &cells, random)?;
     }
     let faces: Vec<Cell> = lists_up_to(3, &[0, 1, 2, 3])
         .map(|corners| Cell::of_one_face(CORNER.as_flattened(), &corners))
         .collect();
     for cells in pairs_of(&faces) {
-        ask(
-            calls,
-            &cells,
-            random,
-            of_two(beside_the_limit, by_the_ruled),
-        )?;
+        beside(calls, &cells, random)?;
     }
     Ok(())
 }

@@ -5,3 +5,4 @@ pub mod Lists
 pub mod Rings
 pub mod Stored
 pub mod Reversal
+pub mod Stretch

@@ -15,7 +15,7 @@ inPairs [] = []
 inPairs (a ∷ []) = []
 inPairs (a ∷ b ∷ l) = (a ∷ b ∷ []) ∷ inPairs l
 
--- the numbers of points, one point after the other
+-- lists one after the other: the numbers of points, the corners of faces
 unfoldable pub joined : {A : Type 0} → List (List A) → List A
 joined [] = []
 joined (p ∷ ps) = p ++ joined ps

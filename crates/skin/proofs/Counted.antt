@@ -34,7 +34,7 @@ pub record Tells (In : ℕ → Type 0) (at : ℕ → ℕ → ℕ) (n : ℕ) : Ty
   pub apart : {a b x y : ℕ} → In a → In b → In x → In y → at a b ≡ at x y → (a ≡ x) × (b ≡ y)
 
 -- both ends of a side are In
-abbrev Both : (ℕ → Type 0) → ℕ × ℕ → Type 0
+abbrev pub Both : (ℕ → Type 0) → ℕ × ℕ → Type 0
 Both In e = In (e .0) × In (e .1)
 
 -- ---- the sides of faces whose corners are In
@@ -47,7 +47,7 @@ module _ {In : ℕ → Type 0} where
   sides-both [] t = each-nil
   sides-both (a ∷ l) t = walk-both a l a (each-head t) (each-tail t) (each-head t)
 
-  all-both : (p : ℕ) (c es : List ℕ) → Each 0 In c → Each (0, 0) (Both In) (allSides (facesFrom p c es))
+  pub all-both : (p : ℕ) (c es : List ℕ) → Each 0 In c → Each (0, 0) (Both In) (allSides (facesFrom p c es))
   all-both p c [] t = each-nil
   all-both p c (e ∷ es) t = each-append (sides (slice p e c)) (allSides (facesFrom e c es)) (sides-both (slice p e c) (each-slice p e c t)) (all-both e c es t)
 

@@ -23,7 +23,7 @@ fn number_vertex(number: &mut [u16], k: usize, x: usize) -> usize
 }
 
 // Each vertex that occurs gets a number, in the order of first mention. What comes back is how many there are.
-fn number_all(number: &mut [u16], corners: &[u32]) -> usize
+pub fn number_all(number: &mut [u16], corners: &[u32]) -> usize
     requires { ⌜ Numbering (now number) 0 × Each 0 (λ x. x < 256) (now corners) ⌝ }
     ensures { λ r. ⌜ Numbering (now (number .exit)) r × Each 0 (Known (now (number .exit)) r) (now (corners .entry)) ⌝ }
 {
@@ -39,7 +39,7 @@ fn number_all(number: &mut [u16], corners: &[u32]) -> usize
 }
 
 // Which entry of the table is that for the sides from a to b.
-fn entry(number: &[u16], k: usize, a: usize, b: usize) -> usize
+pub fn entry(number: &[u16], k: usize, a: usize, b: usize) -> usize
     requires { ⌜ Known (now number) k a × Known (now number) k b × (k ≤ 256) ⌝ }
     ensures { λ r. ⌜ (r ≡ entryOf (now (number .entry)) k a b) × (r < k * k) ⌝ }
 {

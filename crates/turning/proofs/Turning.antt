@@ -5,10 +5,11 @@ use mathlib.Core.List.{List, [], _++_, map, append-assoc, append-nil}
 use Prim.Native.Nat.{ℕ, _+_, _-_, _<_, _≤_}
 use native.Mathlib.Omega.{arith}
 use lib.Dec.{T, eqb→eq}
-use lib.ListN.{length, getD, take, drop, drop-of-length-le, length-append}
-use lib.Seq.{slice, length-slice, length-take-le, take-all, take-at, drop-drop}
-use borrow.Rule.Slice.PartMut.{putMid, same-len-mid, drop-put}
+use lib.ListN.{length, getD, take, drop, drop-of-length-le}
+use lib.Seq.{slice, length-slice, take-all}
+use borrow.Rule.Slice.PartMut.{putMid}
 use Rattle.places.specs.Stored.{joined}
+use Rattle.places.proofs.Stretch.{lay}
 use Rattle.cell.specs.Faces.{facesFrom, facesOf, rises}
 use Rattle.cell.specs.Refusals.{isEmpty, emptyRefused}
 use Rattle.cell.proofs.Faces.{Step, FaceAsking, faces-start, faces-step, faces-yes, faces-no, faces-more, part-is}
@@ -49,14 +50,13 @@ module _ {f : List ℕ → List ℕ} {c₀ es whole : List ℕ} where
         let z = t .long in
         let m : length turned ≡ length (take (e - p) (drop p c)) = rw g (keeps (take (e - p) (drop p c))) in
         let l : length turned ≡ e - p = m ∙ rw turn-part (length-slice p e c₀ (s .upto)) in
-        let n : length (take p c ++ turned) ≡ e = rw (length-append, l, length-take-le p c (omega arith)) (omega arith) in
-        let w : p + (e - p) ≡ e = omega arith in
-        let a : drop e c ≡ drop e c₀ = rw (← w, ← drop-drop (e - p) p c, ← drop-drop (e - p) p c₀, t .ahead) in
+        let u = s .upto in
+        let laid = lay p e c₀ c turned (s .from) (omega arith) l (t .ahead) in
         record {
           faces = faces-no (t .faces) h q (empty-no p e c₀ (s .from) (s .upto) apart);
-          long = same-len-mid p (e - p) c turned m ∙ t .long;
-          ahead = drop-put p e c turned (s .from) (omega arith) l ∙ a;
-          so = rw (← append-assoc (take p c) turned (drop (e - p) (drop p c)), take-at (take p c ++ turned) (drop (e - p) (drop p c)) e n, append-assoc, g, turn-part, q) (sym (rw (faces-more p c₀ es k h)) ∙ t .so);
+          long = laid .long ∙ z;
+          ahead = laid .ahead;
+          so = rw (laid .front, append-assoc, g, turn-part, q) (sym (rw (faces-more p c₀ es k h)) ∙ t .so);
         }
 
   pub turn-end : {p k : ℕ} {c : List ℕ} → Turning f c₀ es whole p k c → length es ≤ k → c ≡ whole

@@ -2,10 +2,8 @@
 ghost use mathlib.Core.Path.{_≡_};
 ghost use mathlib.Core.Bool.{Bool, false, _&&_};
 ghost use Prim.Native.Nat.{ℕ, _<_};
-ghost use mathlib.Core.List.{reverse};
 ghost use lib.ListN.{length};
 ghost use Rattle.places.specs.Loops.{pick, anyOf};
-ghost use Rattle.places.specs.Lists.{swapped};
 ghost use Rattle.flat.specs.Points.{verticesOf, vertexOf, Inside};
 ghost use Rattle.cell.specs.Faces.{facesOf};
 ghost use Rattle.cell.specs.Refusals.{emptyRefused, Sound};
@@ -176,31 +174,6 @@ pub fn is_convex(c: cell::Cell, coords: &[f64], corners: &[u32], ends: &[u32]) -
     }
 }
 
-// The corners at two places changed for each other.
-fn swap_corners(face: &mut [u32], i: usize, j: usize)
-    requires { ⌜ i < length (now face) ⌝ }
-    requires { ⌜ j < length (now face) ⌝ }
-    ensures { λ _. ⌜ now (face .exit) ≡ swapped 0 i j (now (face .entry)) ⌝ }
-{
-    let a = face[i];
-    let b = face[j];
-    face[i] = b;
-    face[j] = a;
-}
-
-// The corners in the other order: each of the first half changes places with the one that is as far from the end.
-fn reverse_corners(face: &mut [u32])
-    ensures { λ _. ⌜ now (face .exit) ≡ reverse (now (face .entry)) ⌝ }
-{
-    let n = face.len();
-    let half = n / 2;
-    let mut i = 0;
-    while i < half {
-        swap_corners(face, i, n - 1 - i);
-        i += 1;
-    }
-}
-
 // How far a face looks away from a reference point.
 fn away(coords: &[f64], face: &[u32], reference: [f64; 3]) -> f64
     requires { ⌜ Inside (verticesOf (now coords)) (now face) ⌝ }
@@ -219,7 +192,7 @@ fn turn_face(coords: &[f64], face: &mut [u32], reference: [f64; 3])
     ensures { λ _. ⌜ now (face .exit) ≡ outwardOf (verticesOf (now (coords .entry))) reference (now (face .entry)) ⌝ }
 {
     if away(coords, face, reference) < 0.0 {
-        reverse_corners(face);
+        places::reverse_corners(face);
     }
 }
 

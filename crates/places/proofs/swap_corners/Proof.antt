@@ -1,8 +1,8 @@
 use mathlib.Core.Path.{refl}
 use Rattle.places.specs.Lists.{swapped}
 use borrow.Author.Needs.{needs}
-use Rattle.turning.proofs.swap_corners.Statement.{statement}
-use Rattle.turning.proofs.swap_corners.Tie as tie
+use Rattle.places.proofs.swap_corners.Statement.{statement}
+use Rattle.places.proofs.swap_corners.Tie as tie
 
 pub swap-corners-spec : {M : Type 1} → statement M
 unfolding swapped

@@ -3,11 +3,11 @@ use mathlib.Core.List.{reverse}
 use Prim.Native.Nat.{_-_, _/_}
 use native.Mathlib.Omega.{arith}
 use lib.ListN.{length}
 use Rattle.places.proofs.Turns.{Folding, fold-end}
 use Rattle.places.proofs.Reversal.{mirror, mirror-start, mirror-turn}
 use borrow.Author.Needs.{needs}
-use Rattle.turning.proofs.reverse_corners.Statement.{statement}
-use Rattle.turning.proofs.reverse_corners.Tie as tie
+use Rattle.places.proofs.reverse_corners.Statement.{statement}
+use Rattle.places.proofs.reverse_corners.Tie as tie
 
 pub reverse-corners-spec : {M : Type 1} → statement M
 reverse-corners-spec =

@@ -47,6 +47,11 @@ det-anti : (p a b : V3) → det p a b ≡ negℤ (det p b a)
 unfolding det
 det-anti p a b = ring (a .x ∷ a .y ∷ a .z ∷ b .x ∷ b .y ∷ b .z ∷ p .x ∷ p .y ∷ p .z ∷ []) (detE vc va vb) (⊖ (detE vc vb va)) tt
 
+-- the other way round, the opposite
+pub det-back : (a b c : V3) → det c b a ≡ negℤ (det a b c)
+unfolding det
+det-back a b c = ring (a .x ∷ a .y ∷ a .z ∷ b .x ∷ b .y ∷ b .z ∷ c .x ∷ c .y ∷ c .z ∷ []) (detE vc vb va) (⊖ (detE va vb vc)) tt
+
 -- ---- over triangles
 -- each has three corners
 abbrev pub Three : List ℕ → Type 0

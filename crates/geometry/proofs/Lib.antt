@@ -1,3 +1,4 @@
 pub mod Answers
 pub mod Surveys
 pub mod WorkLists
+pub mod Turned

@@ -1,3 +1,4 @@
 pub mod Answers
 pub mod Survey
 pub mod Clipping
+pub mod Turned

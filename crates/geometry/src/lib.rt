@@ -22,6 +22,7 @@ ghost use Rattle.turning.specs.Turning.{turnedOf};
 ghost use Rattle.refusals.specs.Refusals.{cellRefusal, facesRefusal, trianglesRefusal, phedRefusal};
 ghost use Rattle.geometry.specs.Answers.{named3, numberOr, truthOr, countOr, placeOr, extentOr, frontOr, listOr, doneOr, describedOr, facePlaneOr, faceTriangles};
 ghost use Rattle.geometry.specs.Survey.{surveyAnswer};
+ghost use Rattle.geometry.specs.Turned.{TurnsTo};
 
 // An answer that is a number, a yes or no, a count; or the number of the refusal.
 pub enum Number {
@@ -262,6 +263,26 @@ pub fn into_ccw(coords: &[f64], corners: &mut [u32], ends: &[u32]) -> Done
     }
     turning::into_ccw(coords, corners, ends);
     Done::Is
+}
+
+// The backward faces turned: some faces are reversed, each in its own stretch of the corner list, so that the cell becomes closed.
+// The answer is how many.
+// Ruled out: the lowest face of a group reversed; 12 although a choice of reversals closes the cell; a refused list of which some faces are reversed.
+pub fn turn_faces(coords: &[f64], corners: &mut [u32], ends: &[u32]) -> Count
+    ensures { λ r. ⌜ TurnsTo (now (coords .entry)) (now (corners .entry)) (now (ends .entry)) r (now (corners .exit)) ⌝ }
+{
+    let why = refusals::cell_refusal(coords, corners, ends);
+    if why != 0 {
+        return Count::Refused(why);
+    }
+    let n = ends.len();
+    let mut code = [0u8; 256];
+    let part = &mut code[..n];
+    let none = facing::choose(corners, ends, coords.len() / 3, part);
+    if none != 0 {
+        return Count::Refused(none);
+    }
+    Count::Is(facing::reverse_faces(corners, ends, part))
 }
 
 // The plane of the face with a number: a unit normal and an offset. Where the norm is 0 the plane has parts that are NaN or infinite.

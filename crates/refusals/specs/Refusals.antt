@@ -1,4 +1,5 @@
--- Why a public entry refuses, 0 where it does not. For a cell it is `refusalOf` of the crate cell; here stand the lists of module 2, what is asked of a cell's faces, clipping, the overlap and the query points of the report.
+-- Why a public entry refuses, 0 where it does not. For a cell it is `refusalOf` of the crate cell; here stand the lists of module 2,
+-- what is asked of a cell's faces, turning the backward faces, clipping, the overlap and the query points of the report.
 use mathlib.Core.Bool.{Bool, not, _&&_, _||_}
 use mathlib.Core.List.{List, [], _∷_}
 use Prim.Native.Nat.{ℕ, _-_, _/_, _%_}
@@ -10,6 +11,7 @@ use Rattle.places.specs.Stored.{inPairs}
 use Rattle.flat.specs.Points.{verticesOf}
 use Rattle.cell.specs.Faces.{facesOf}
 use Rattle.cell.specs.Refusals.{firstRow, pointsRefused, numberRefused, emptyRefused, refusalOf}
+use Rattle.facing.specs.Refused.{unturnable}
 use Rattle.inside.specs.Inside.{faceEnd}
 use Rattle.planes.specs.Planes.{inFours}
 
@@ -42,6 +44,10 @@ cellRefusal coords corners ends = refusalOf coords corners ends [] []
 -- planes, outward turning and intersection: 1 to 4 for the cell and the faces that are asked for, then 5
 unfoldable pub facesRefusal : List Float → List ℕ → List ℕ → List ℕ → ℕ
 facesRefusal coords corners ends asked = orElse (refusalOf coords corners ends [] asked) (firstRow ((5, emptyRefused corners ends) ∷ []))
+
+-- turning the backward faces: 1 to 4 for the cell, then 11, then 12; 5 is not given
+unfoldable pub turnRefusal : List Float → List ℕ → List ℕ → ℕ
+turnRefusal coords corners ends = orElse (cellRefusal coords corners ends) (unturnable (facesOf corners ends))
 
 -- 6 room: the triangles of a face need n − 2 places for n ≥ 3
 unfoldable pub roomRefused : List ℕ → ℕ → Bool

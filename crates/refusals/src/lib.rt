@@ -4,7 +4,7 @@ ghost use mathlib.Core.List.{[], _∷_};
 ghost use Prim.Native.Nat.{_-_, _<_};
 ghost use lib.Dec.{ltb};
 ghost use Rattle.places.specs.Loops.{anyOf};
-ghost use Rattle.refusals.specs.Refusals.{partsRefused, listRefusal, pairsRefused, planeRefusal, cellRefusal, facesRefusal, strays, phedRefusal, queriesRefused, surveyRefusal, planesRefused, workRefused, worksRefusal, clipRefusal, planarRefusal, overlapRefusal};
+ghost use Rattle.refusals.specs.Refusals.{partsRefused, listRefusal, pairsRefused, planeRefusal, cellRefusal, facesRefusal, turnRefusal, strays, phedRefusal, queriesRefused, surveyRefusal, planesRefused, workRefused, worksRefusal, clipRefusal, planarRefusal, overlapRefusal};
 
 // Whether n numbers do not come in parts of a size, or make too many of them.
 fn parts_refused(n: usize, size: usize, most: usize) -> bool
@@ -94,6 +94,18 @@ pub fn faces_refusal(coords: &[f64], corners: &[u32], ends: &[u32], asked: &[u32
         return 5;
     }
     0
+}
+
+// Why turning the backward faces is refused; faces of 0 corners pass.
+// Ruled out: 5 for an empty face; a side that occurs once found before a corner that is out of range.
+pub fn turn_refusal(coords: &[f64], corners: &[u32], ends: &[u32]) -> u8
+    ensures { λ r. ⌜ r ≡ turnRefusal (now (coords .entry)) (now (corners .entry)) (now (ends .entry)) ⌝ }
+{
+    let why = cell_refusal(coords, corners, ends);
+    if why != 0 {
+        return why;
+    }
+    facing::refusal(corners, ends, coords.len() / 3)
 }
 
 // Whether `room` places are too few for the triangles of a face of n corners.

@@ -1,0 +1,49 @@
+-- `facing::neighbour` meets its contract: of the two marks at the side the first is the other face's, or it is f's own and the second is.
+use borrow.Author.Tests.{eq-eqb, ne-eqb}
+use Rattle.facing.specs.Steps.{neighbourOf}
+use borrow.Author.Needs.{needs}
+use Rattle.facing.proofs.neighbour.Statement.{statement}
+use Rattle.facing.proofs.neighbour.Tie as tie
+
+returns : tie.Need-returns
+unfolding neighbourOf
+returns c =
+    let args = c .before .before .before .args in
+    rw (eq-eqb (args .a) (args .b) (c .if1 .taken))
+
+face-of-requires : tie.Need-face-of-requires
+face-of-requires c κs =
+    let pre = c .before .before .before .before .pre in
+    rw (c .first-mark .ensures) (pre .1 .1 (c .before .if1 .left))
+
+returns-2 : tie.Need-returns-2
+unfolding neighbourOf
+returns-2 c =
+    let first-mark = c .before .before .first-mark in
+    let if1 = c .before .before .before .if1 in
+    let start : tie.Start = search in
+    let args = start .args in
+    rw
+    (ne-eqb (args .a) (args .b) (if1 .left), ← first-mark .ensures, ← c .before .face-of .ensures, ne-eqb _ _ (c .if2 .taken))
+
+returns-3 : tie.Need-returns-3
+unfolding neighbourOf
+returns-3 c =
+    let face-of = c .before .before .face-of in
+    let first-mark = c .before .before .before .first-mark in
+    let if1 = c .before .before .before .before .if1 in
+    let start : tie.Start = search in
+    let args = start .args in
+    rw (ne-eqb (args .a) (args .b) (if1 .left), ← first-mark .ensures, ← face-of .ensures, eq-eqb _ _ (c .before .if2 .left))
+    (c .second-mark .ensures)
+
+pub neighbour-spec : {M : Type 1} → statement M
+neighbour-spec =
+    tie.close
+    (tie.spec
+    returns
+    (λ c κs. search needs)
+    face-of-requires
+    returns-2
+    (λ c κs. search needs)
+    returns-3)

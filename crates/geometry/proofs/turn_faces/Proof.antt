@@ -1,0 +1,88 @@
+-- `geometry::turn_faces` meets its contract: a cell that passes the checks is sound, so the room may choose, and each of the three ends is one of the promise's.
+use mathlib.Core.Path.{sym, _∙_}
+use mathlib.Core.List.{[]}
+use Prim.Native.Nat.{ℕ}
+use native.Mathlib.Omega.{arith}
+use lib.ListN.{length}
+use Rattle.places.proofs.Lists.{first-of}
+use Rattle.places.proofs.Stored.{length-threes}
+use Rattle.cell.specs.Refusals.{Sound}
+use Rattle.cell.proofs.Refusals.{sound}
+use Rattle.facing.proofs.Chosen.{blank-part}
+use Rattle.geometry.proofs.Turned.{turn-refused, turn-none, turn-done}
+use borrow.Author.Needs.{needs}
+use Rattle.geometry.proofs.turn_faces.Statement.{statement}
+use Rattle.geometry.proofs.turn_faces.Tie as tie
+
+-- past the checks the cell is sound
+whole : (c : tie.Else1) → let s : tie.Start = search in Sound (s .args .coords .now) (s .args .corners .now) (s .args .ends .now)
+whole c =
+    let start : tie.Start = search in
+    let args = start .args in
+    sound (args .coords .now) (args .corners .now) (args .ends .now) [] [] (sym (c .before .cell-refusal .ensures) ∙ c .if1 .left)
+
+returns : tie.Need-returns
+returns c =
+    let start : tie.Start = search in
+    let args = start .args in
+    turn-refused (args .coords .now) (args .corners .now) (args .ends .now) (c .before .cell-refusal .ensures) (c .if1 .taken)
+
+array-borrow-prefix-code : tie.Need-array-borrow-prefix-code
+array-borrow-prefix-code c = let at : tie.Else1 = search in whole at .few-faces
+
+slice-aggregate-part : tie.Need-slice-aggregate-part
+slice-aggregate-part c = let at : tie.Else1 = search in first-of _ 256 0 (whole at .few-faces)
+
+choose-requires : tie.Need-choose-requires
+choose-requires c κs =
+    let start : tie.Start = search in
+    let args = start .args in
+    let at : tie.Else1 = search in
+    let s = whole at in (
+      rw (← length-threes (args .coords .now)) (s .inside, s .few),
+      ((s .few-corners, s .ordered, s .few-faces), (blank-part (length (args .ends .now)) 256, sym (first-of _ 256 0 (s .few-faces)))),
+    )
+
+returns-2 : tie.Need-returns-2
+returns-2 c =
+    let start : tie.Start = search in
+    let args = start .args in
+    let at : tie.Else1 = search in
+    let chosen : tie.After-choose = search in
+    let unturned : tie.Then2 = search in
+    turn-none (args .coords .now) (args .corners .now) (args .ends .now) (at .before .cell-refusal .ensures) (at .if1 .left)
+    (chosen .choose .ensures) (unturned .if2 .taken)
+
+reverse-faces-requires : tie.Need-reverse-faces-requires
+reverse-faces-requires c κs =
+    let start : tie.Start = search in
+    let args = start .args in
+    let at : tie.Else1 = search in
+    let s = whole at in
+    ((s .ordered, s .few-corners), (omega (arith, sym (first-of {A = ℕ} (length (args .ends .now)) 256 0 (s .few-faces))), s .few-faces))
+
+returns-3 : tie.Need-returns-3
+returns-3 c =
+    let start : tie.Start = search in
+    let args = start .args in
+    let at : tie.Else1 = search in
+    let chosen : tie.After-choose = search in
+    let passed : tie.Else2 = search in
+    let reversed : tie.After-reverse-faces = search in
+    turn-done (args .coords .now) (args .corners .now) (args .ends .now) (at .before .cell-refusal .ensures) (at .if1 .left)
+    (chosen .choose .ensures) (passed .if2 .left) (reversed .reverse-faces .ensures .0) (reversed .reverse-faces .ensures .1)
+
+pub turn-faces-spec : {M : Type 1} → statement M
+turn-faces-spec =
+    tie.close
+    (tie.spec
+    (λ c κs. search needs) (λ c. search needs)
+    returns
+    array-borrow-prefix-code
+    slice-aggregate-part
+    choose-requires
+    (λ c. search needs)
+    returns-2
+    reverse-faces-requires
+    (λ c. search needs)
+    returns-3)

@@ -1,0 +1,5 @@
+pub mod Marks
+pub mod Table
+pub mod Full
+pub mod Pairs
+pub mod Stamps

@@ -2,3 +2,5 @@ pub mod Demand3
 pub mod Reported
 pub mod Exact
 pub mod Cube
+pub mod Refused
+pub mod Turned

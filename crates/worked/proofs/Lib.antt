@@ -1,1 +1,3 @@
 pub mod Table
+pub mod Kept
+pub mod Turned

@@ -1,4 +1,4 @@
-/* Wegrusamt under C names: cells with flat faces, measured as document 01 says, every function proved.
+/* Wegrusamt under C names: cells with flat faces, measured as documents 01 and 02 say, every function proved.
  *
  * Link with the archive that `rt staticlib abi` builds (target/staticlib/libabi.a); no other library is needed,
  * not even -lm. examples/volume.c is a program that does so.
@@ -12,8 +12,8 @@
  * A cell is three lists: coords, three numbers a vertex; corners, vertex numbers from 0; ends, where each face
  * ends in corners (face k runs from the end before it, 0 for the first, up to its own).
  *
- * Answers. A function that returns uint8_t returns 0, or the number of document 01's refusal (save the two tests
- * of planes, which return yes or no):
+ * Answers. A function that returns uint8_t returns 0, or the number of a refusal, 1 to 6 by document 01, 11 and 12
+ * by document 02 (save the two tests of planes, which return yes or no):
  *   1 size    coordinates or query values not in threes (in pairs in the plane; planes in fours); 0 or over 256
  *             vertices, or points of a list of space; over 256 faces, 2,048 corners, 256 planes, 256 query points
  *             or 512 points of the plane; a work list over 3,072 numbers
@@ -21,6 +21,9 @@
  *   3 ends    ends fall, or the last is not the corner count
  *   4 index   a corner not below the vertex count, or a face number not below the face count
  *   5 empty   any face of no corners (planes, outward turning and intersection only)
+ *  11 sides   a side between two different vertices, taken without direction, does not occur exactly twice over
+ *             all faces, or a face holds a vertex twice (turning of backward faces only)
+ *  12 choice  no choice of faces to reverse closes the cell (turning of backward faces only)
  *   6 room    a list that is written to is too short
  * The first that applies is returned: in this order, and for two cells 1 to 5 of the first, then of the second,
  * then 6. Work lists and query values are judged with the first cell's 1 and 2.
@@ -103,6 +106,14 @@ uint8_t wegrusamt_is_convex(const double *coords, size_t coords_len, const uint3
  * faces, and the shape as 0 convex, 1 concave, 2 unknown. */
 uint8_t wegrusamt_describe(const double *coords, size_t coords_len, const uint32_t *corners, size_t corners_len,
                            const uint32_t *ends, size_t ends_len, uint8_t shape, size_t *out, size_t out_len);
+
+/* ---- a cell: refusals 1 to 4, then 11, then 12, and 6 ---- */
+
+/* Turns the backward faces: reverses faces in the corner list, each in its own stretch, so that the cell becomes
+ * closed; a, b, c, d becomes d, c, b, a. Of each group of faces joined by sides the lowest-numbered keeps its
+ * direction. A face of no corners is not refused. out: 1 number, how many faces were reversed. */
+uint8_t wegrusamt_turn_faces(const double *coords, size_t coords_len, uint32_t *corners, size_t corners_len,
+                             const uint32_t *ends, size_t ends_len, size_t *out, size_t out_len);
 
 /* ---- a cell: refusals 1 to 5, and 6 ---- */
 

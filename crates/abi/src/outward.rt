@@ -1,4 +1,4 @@
-// Convexity, outward turning and planes under C names.
+// Convexity, outward turning, backward faces and planes under C names.
 ghost use mathlib.Core.Path.{_≡_};
 ghost use mathlib.Core.List.{[], _∷_};
 ghost use lib.ListN.{length, getD};
@@ -10,6 +10,7 @@ ghost use Rattle.turning.specs.Convexity.{isConvexOf};
 ghost use Rattle.turning.specs.Turning.{turnedOf};
 ghost use Rattle.refusals.specs.Refusals.{cellRefusal, facesRefusal};
 ghost use Rattle.geometry.specs.Answers.{truthOr, describedOr, doneOr, listOr, facePlaneOr};
+ghost use Rattle.abi.specs.Turned.{TurnsInto};
 ghost use Rattle.values.specs.Answers.{shapeKnown, truthCode, truthInto, describedCode, describedInto, doneCode, planeCode, planeInto};
 
 #[no_mangle]
@@ -53,6 +54,26 @@ pub extern "C" fn wegrusamt_into_ccw(coords: &[f64], corners: &mut [u32], ends: 
     ensures written { λ _. ⌜ now (corners .exit) ≡ listOr (facesRefusal (now (coords .entry)) (now (corners .entry)) (now (ends .entry)) []) (turnedOf (verticesOf (now (coords .entry))) (facesOf (now (corners .entry)) (now (ends .entry)))) (now (corners .entry)) ⌝ }
 {
     values::done_code(geometry::into_ccw(coords, corners, ends))
+}
+
+// One number: how many faces were reversed. Where `out` has no room for it, only the refusal is computed, and the corner list stays as it was.
+#[no_mangle]
+pub extern "C" fn wegrusamt_turn_faces(
+    coords: &[f64],
+    corners: &mut [u32],
+    ends: &[u32],
+    out: &mut [usize],
+) -> u8
+    ensures { λ r. ⌜ TurnsInto (now (coords .entry)) (now (corners .entry)) (now (ends .entry)) (now (out .entry)) r (now (corners .exit)) (now (out .exit)) ⌝ }
+{
+    if out.len() < 1 {
+        let why = refusals::turn_refusal(coords, corners, ends);
+        if why != 0 {
+            return why;
+        }
+        return 6;
+    }
+    values::put_count(geometry::turn_faces(coords, corners, ends), out)
 }
 
 #[no_mangle]

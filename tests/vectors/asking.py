@@ -16,7 +16,7 @@ ENTRY = {name: k + 1 for k, name in enumerate((
     'plane_of_face', 'tet_volume', 'wedge_volume', 'hex_volume', 'tet_contains', 'wedge_contains', 'hex_contains',
     'segment_plane_intersection', 'plane_same_side', 'plane_coplanar_opposite', 'cross2', 'dominant_axis', 'project2',
     'segment_intersection', 'into_ccw2', 'vertex_centroid2', 'bounds2', 'describe', 'clip_face', 'clip_convex',
-    'convex_intersection_area', 'convex_intersection_volume', 'survey_of_queries'))}
+    'convex_intersection_area', 'convex_intersection_volume', 'survey_of_queries', 'turn_faces'))}
 
 ARGUMENTS, NUMBERS = 5, 6
 
@@ -134,13 +134,13 @@ class Case:
         self.lines[-1] += ''.join(' | lent list: ' + plain_list(entry, ws) for ws in lent)
 
     def said(self, why, numbers=None, lent=None):
-        """Stops where an answer is not the one that document 01 states."""
+        """Stops where an answer is not the one that the documents state."""
         for q in self.questions:
             answer, after = q[3 + ARGUMENTS:], q[3 + ARGUMENTS + NUMBERS:]
             refused = q[2 + ARGUMENTS]
             other = numbers is not None and answer[:len(numbers)] != numbers
             if refused != why or other or (lent is not None and after != lent):
-                raise SystemExit(f'{self.name} is not as document 01 has it: {q}')
+                raise SystemExit(f'{self.name} is not as the documents have it: {q}')
 
     def stored(self):
         coords, corners, ends = self.cell
@@ -178,12 +178,12 @@ def plain(entry, numbers):
         return ['done']
     if entry == 'describe':
         return [*map(str, numbers[:3]), SHAPES[numbers[3]]]
-    return [str(n) if entry in ('triangles', 'dominant_axis') else f'{n:016X}' for n in numbers]
+    return [str(n) if entry in ('triangles', 'turn_faces', 'dominant_axis') else f'{n:016X}' for n in numbers]
 
 
 def plain_list(entry, words):
     """A lent list as it is read: - is a place that stays as it was."""
-    if entry in ('triangles', 'into_ccw'):
+    if entry in ('triangles', 'into_ccw', 'turn_faces'):
         return shortened(['-' if n == MARK else str(n) for n in words])
     read = []
     for n, run in itertools.groupby('-' if n == FILLER else f'{n:X}' for n in words):

@@ -3,17 +3,8 @@ import math
 
 from asking import Case, MARK, SHAPES, bits, cell_words, flat, hexes, in_parts, points, read_points, whole
 from cells import CUBE, HEX8, SEVEN, TETRA, box, cell_of, damage, prism, queries, torn
+from sides import closed, turned
 from table import LIMIT, faces, faces_refusal, list_refusal, phed_refusal, plane_refusal, refusal, survey_refusal
-
-
-def closed(cell):
-    """Whether, for all i and j that differ, sides i to j are as many as j to i."""
-    balance = {}
-    for f in faces(cell):
-        for i, j in zip(f, f[1:] + f[:1]):
-            balance[i, j] = balance.get((i, j), 0) + 1
-            balance[j, i] = balance.get((j, i), 0) - 1
-    return all(n == 0 for (i, j), n in balance.items() if i != j)
 
 
 def of_value(patterns):
@@ -30,7 +21,7 @@ class CellCase(Case):
 
     def is_closed(self):
         why = refusal(self.cell)
-        self.put('closed', [], why, [] if why else [int(closed(self.cell))])
+        self.put('closed', [], why, [] if why else [int(closed(faces(self.cell)))])
 
     def holds(self, p):
         return self.oracle.yes('contains', f'{cell_words(self.cell)} {hexes(p)}')
@@ -48,7 +39,7 @@ class CellCase(Case):
     def surveyed(self, ps):
         """What the cell report says, with these query points."""
         cut = [(len(f), self.cut(f)[0]) for f in faces(self.cell)]
-        return [sum(t for _, t in cut), int(closed(self.cell)), sum(t < n - 2 for n, t in cut if n >= 3),
+        return [sum(t for _, t in cut), int(closed(faces(self.cell))), sum(t < n - 2 for n, t in cut if n >= 3),
                 *self.oracle.patterns('volume', cell_words(self.cell)), sum(self.holds(p) for p in ps)]
 
     def survey(self, p):
@@ -101,6 +92,11 @@ class CellCase(Case):
         after = self.cell[1] if why else [int(w) for w in self.oracle.ask('into_ccw', cell_words(self.cell))[1:]]
         self.put('into_ccw', [], why, [], lent=[after])
 
+    def turn_faces(self):
+        """How many backward faces are turned, and the corners after that."""
+        why, count, after = turned(self.cell)
+        self.put('turn_faces', [], why, [count], lent=[after])
+
     def plane(self, face):
         why = faces_refusal(self.cell, face)
         words = '' if why else f'{points(self.cell[0])} {whole(faces(self.cell)[face])}'
@@ -111,6 +107,7 @@ class CellCase(Case):
         for entry in ('volume', 'centroid', 'geometric_centroid', 'bounds', 'scale'):
             self.measure(entry)
         self.is_closed()
+        self.turn_faces()
         for p in ps:
             self.contains(p)
         self.survey(ps[0])
@@ -120,6 +117,7 @@ class CellCase(Case):
     def shape_and_planes(self):
         self.shape()
         self.turning()
+        self.turn_faces()
         for k in self.faces_asked():
             self.plane(k)
 
@@ -293,6 +291,7 @@ def limits(oracle):
         c.triangles(0)
         c.shape()
         c.turning()
+        c.turn_faces()
         c.plane(0)
         out.append(c)
     room = CellCase(oracle, 'room', cube, 'a face number past the last is refused 4, a list of too few places 6')

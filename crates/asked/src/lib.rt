@@ -107,6 +107,15 @@ fn same_turned(q: &[u64], coords: &[f64], corners: &mut [u32], ends: &[u32]) -> 
     lent::same_corners(lent::stored(q), corners)
 }
 
+// Whether the backward faces are turned as stored.
+fn same_backward(q: &[u64], coords: &[f64], corners: &mut [u32], ends: &[u32]) -> bool {
+    let a = answers::of_count(geometry::turn_faces(coords, corners, ends));
+    if !lent::same(q, &a) {
+        return false;
+    }
+    lent::same_corners(lent::stored(q), corners)
+}
+
 // Whether an outline is turned as stored.
 fn same_outline(q: &[u64], coords: &mut [f64]) -> bool {
     let a = answers::of_done(geometry::plane::into_ccw2(coords));
@@ -123,6 +132,7 @@ pub fn agrees(q: &[u64], coords: &mut [f64], corners: &mut [u32], ends: &[u32]) 
         17 => same_turned(q, coords, corners, ends),
         32 => same_outline(q, coords),
         36 | 37 | 38 | 39 => clips::same_clipped(q, coords, corners, ends),
+        41 => same_backward(q, coords, corners, ends),
         _ => same_answer(q, coords, corners, ends),
     }
 }

@@ -4,10 +4,10 @@ use crate::calls::Calls;
 use crate::comparison::Comparison;
 use crate::{
     Outcome, clip, compare_cells, count_and_seed, cut, floats, leaves, overlap, shapes, short,
-    turning,
+    turn_faces, turning,
 };
 
-pub const COMPARISONS: [Comparison; 9] = [
+pub const COMPARISONS: [Comparison; 10] = [
     Comparison {
         name: "floats",
         what: "the leaves on f64 against the machine, over N random patterns and others",
@@ -49,6 +49,12 @@ pub const COMPARISONS: [Comparison; 9] = [
         what: "N random cells, and damaged copies: descriptions, convexity, outward faces, planes",
         count: 200_000,
         compare: turning::compare,
+    },
+    Comparison {
+        name: "turn_faces",
+        what: "N random cells with faces backward, and damaged copies, against a second teller",
+        count: 100_000,
+        compare: turn_faces::compare,
     },
     Comparison {
         name: "clip",

@@ -4,6 +4,8 @@
 //! The Rust's own forms of cells and planes are made once, outside the timed rounds; the port reads
 //! and checks plain lists in every call. So for cells there is a second ratio, to the Rust that makes
 //! its own form from the same lists in every call.
+//!
+//! An entry that the Rust does not have may be held to another entry of the port instead.
 
 use std::hint::black_box;
 use std::time::{Duration, Instant};
@@ -52,6 +54,8 @@ struct Row {
     ratio: f64,
     /// Ours over the Rust that makes its own form of the cell in every call.
     from_lists: Option<f64>,
+    /// The entry of the port that stands in the Rust's place.
+    beside: Option<&'static str>,
 }
 
 impl Table {
@@ -96,6 +100,22 @@ impl Table {
         }
     }
 
+    /// A row of an entry that the Rust does not have, held to another entry of the port.
+    pub fn add_beside<A, B>(
+        &mut self,
+        entry: &'static str,
+        size: usize,
+        mut ours: impl FnMut() -> A,
+        beside: &'static str,
+        mut other: impl FnMut() -> B,
+    ) {
+        if self.takes(entry) {
+            let mut row = Row::timed(entry, Some(size), &mut ours, &mut other);
+            row.beside = Some(beside);
+            self.push(row);
+        }
+    }
+
     fn takes(&self, entry: &str) -> bool {
         self.word.as_ref().is_none_or(|word| entry.contains(word))
     }
@@ -112,7 +132,8 @@ impl Table {
         println!(
             "from lists: ours over the Rust that makes its own form of the cell in every call;"
         );
-        println!("growth: the power of the size by which the time grew since the row above");
+        println!("growth: the power of the size by which the time grew since the row above;");
+        println!("a / b: the Rust has no a, and in its columns stands our own b");
         println!(
             "{:28} {:>6} {:>12} {:>12} {:>10} {:>11} {:>8} {:>8}",
             "entry", "size", "ours", "Rust", "ours/Rust", "from lists", "growth", "Rust's"
@@ -120,8 +141,14 @@ impl Table {
     }
 
     fn print_end(&self) {
-        let slower = self.rows.iter().filter(|row| row.ratio > 1.0).count();
-        println!("{} rows, {slower} of them above 1.00", self.rows.len());
+        let (beside, to_the_rust): (Vec<&Row>, Vec<&Row>) =
+            self.rows.iter().partition(|row| row.beside.is_some());
+        let slower = to_the_rust.iter().filter(|row| row.ratio > 1.0).count();
+        println!("{} rows, {slower} of them above 1.00", to_the_rust.len());
+        if let Some(most) = beside.iter().map(|row| row.ratio).max_by(f64::total_cmp) {
+            let count = beside.len();
+            println!("{count} rows beside entries of our own, {most:.2} at most");
+        }
     }
 }
 
@@ -140,10 +167,15 @@ impl Row {
             rust,
             ratio,
             from_lists: None,
+            beside: None,
         }
     }
 
     fn print(&self, before: Option<&Row>) {
+        let name = match self.beside {
+            None => self.entry.to_string(),
+            Some(other) => format!("{} / {other}", self.entry),
+        };
         let size = self.size.map_or(String::new(), |size| size.to_string());
         let from_lists = self
             .from_lists
@@ -154,14 +186,14 @@ impl Row {
             None => [const { String::new() }; 2],
         };
         println!(
-            "{:28} {size:>6} {:12.1} {:12.1} {:10.2} {from_lists:>11} {growth:>8} {by_rust:>8}",
-            self.entry, self.ours, self.rust, self.ratio
+            "{name:28} {size:>6} {:12.1} {:12.1} {:10.2} {from_lists:>11} {growth:>8} {by_rust:>8}",
+            self.ours, self.rust, self.ratio
         );
     }
 
     /// The powers of the size by which both times grew since a row of the same entry.
     fn growth_since(&self, before: &Row) -> Option<[f64; 2]> {
-        if self.entry != before.entry {
+        if (self.entry, self.beside) != (before.entry, before.beside) {
             return None;
         }
         let larger = self.size? as f64 / before.size? as f64;

@@ -106,6 +106,7 @@ pub fn add_rows(table: &mut Table) {
     add_described(table);
     add_list_of_faces(table);
     add_turning(table);
+    add_backward(table);
     add_planes(table);
     add_cuts(table);
     add_shapes(table);
@@ -163,6 +164,41 @@ fn add_turning(table: &mut Table) {
             || black_box(&mut by_rust).into_ccw(),
             || own_form(black_box(cell)).into_ccw(),
         );
+    }
+}
+
+/// A cell of which three faces run backward, none of them the first.
+fn with_backward_faces(cell: Cell) -> Cell {
+    cell.with_faces(|faces| {
+        let last = faces.len() - 1;
+        for face in [1, last / 2 + 1, last] {
+            faces[face].reverse();
+        }
+    })
+}
+
+/// The Rust has no such pass: beside it stands our `closed`. Of the same cell it says no, at the first
+/// side that is run wrong; of the cell once turned it says yes, after all sides. On both sides each call
+/// has a fresh copy of the corners, which is timed with it.
+fn add_backward(table: &mut Table) {
+    for (beside, is_turned) in [("closed (no)", false), ("closed (yes)", true)] {
+        for forward in all_cells() {
+            let backward = with_backward_faces(forward.clone());
+            let asked = if is_turned { &forward } else { &backward };
+            let (mut lent, mut read) = (backward.clone(), asked.clone());
+            let (mut count, mut yes) = ([0], [0]);
+            let mut turn = || {
+                lent.corners.copy_from_slice(black_box(&backward.corners));
+                ours::turn_faces(&lent.coords, &mut lent.corners, &lent.ends, &mut count)
+            };
+            assert_eq!(turn(), 0, "the cell can be closed");
+            let closed = || {
+                read.corners.copy_from_slice(black_box(&asked.corners));
+                ours::closed(&read, &mut yes)
+            };
+            table.add_beside("turn_faces", forward.corners.len(), turn, beside, closed);
+            assert_eq!((count, lent), ([3], forward), "three faces are turned");
+        }
     }
 }
 

@@ -110,6 +110,7 @@ entries! {
     describe(cell: Cell, shape: u8, out: &mut [usize]);
     is_convex(cell: Cell, shape: u8, out: &mut [usize]);
     into_ccw(coords: &[f64], corners: &mut [u32], ends: &[u32]);
+    turn_faces(coords: &[f64], corners: &mut [u32], ends: &[u32], out: &mut [usize]);
 }
 
 // Lists of points, in space and in the plane.

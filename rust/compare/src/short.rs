@@ -15,6 +15,8 @@ use crate::outlines;
 use crate::overlap::{by_the_ruled, of_two};
 use crate::random::Random;
 use crate::shapes::{FORMS, Solid, of_form};
+use crate::turn_faces::ask_about;
+use crate::turn_judge::holds_a_vertex_twice;
 use crate::turning::compare_cell;
 use crate::work::{beside_the_limit, every_short};
 
@@ -52,6 +54,8 @@ pub fn compare(calls: &mut Calls, times: u64, seed: u64) -> Compared {
         corners_and_ends,
         single_faces,
         faces_of_a_tetrahedron,
+        faces_to_turn,
+        corners_to_turn,
         coordinates,
         queries,
         lists_with_marks,
@@ -110,6 +114,7 @@ fn lists_of_points(calls: &mut Calls, random: &mut Random) -> Compared {
 /// All entries that take a whole cell.
 fn ask_cell(calls: &mut Calls, cell: Cell, queries: &[[f64; 3]], random: &mut Random) -> Compared {
     ask(calls, &cell, random, compare_cell)?;
+    ask_about(calls, TO_TURN, cell.clone(), random)?;
     let queries = queries.to_vec();
     ask(calls, &Question { cell, queries }, random, compare_question)
 }
@@ -148,6 +153,56 @@ fn faces_of_a_tetrahedron(calls: &mut Calls, random: &mut Random) -> Compared {
     for faces in lists_up_to(5, &[TETRAHEDRON, inward].concat()) {
         let faces: Vec<Vec<u32>> = faces.iter().map(|face| face.to_vec()).collect();
         ask_cell(calls, Cell::new(&CORNER, &faces), &QUERIES, random)?;
+    }
+    Ok(())
+}
+
+/// The title for answers about backward faces.
+const TO_TURN: &str = "backward faces";
+
+/// Up to four faces over four vertices, no vertex twice in a face, each face from its lowest corner on;
+/// up to three, each from any corner on; up to six that have four corners.
+fn faces_to_turn(calls: &mut Calls, random: &mut Random) -> Compared {
+    let any = lists_up_to(4, &[0, 1, 2, 3]).filter(|face| !holds_a_vertex_twice(face));
+    let any: Vec<Vec<u32>> = any.collect();
+    let any: Vec<&Vec<u32>> = any.iter().collect();
+    let chosen = |chosen: fn(&[u32]) -> bool| -> Vec<&Vec<u32>> {
+        let all = any.iter().copied();
+        all.filter(|face| chosen(face)).collect()
+    };
+    let from_lowest = chosen(|face| face.iter().min() == face.first());
+    let of_four = chosen(|face| face.len() == 4 && face[0] == 0);
+    let cells = lists_up_to(4, &from_lowest)
+        .chain(lists_up_to(3, &any))
+        .chain(lists_up_to(6, &of_four));
+    for faces in cells {
+        let faces: Vec<Vec<u32>> = faces.into_iter().cloned().collect();
+        ask_about(calls, TO_TURN, Cell::new(&CORNER, &faces), random)?;
+    }
+    Ok(())
+}
+
+/// Up to six corners over four vertices and up to seven over three, cut at any places into up to four
+/// faces.
+fn corners_to_turn(calls: &mut Calls, random: &mut Random) -> Compared {
+    for (vertices, longest) in [(4, 6), (3, 7)] {
+        let coords = CORNER[..vertices as usize].as_flattened();
+        let numbers: Vec<u32> = (0..vertices).collect();
+        for length in 0..=longest {
+            let places: Vec<u32> = (0..=length).collect();
+            let cuts = lists_up_to(3, &places).filter(|cuts| cuts.is_sorted());
+            let ends: Vec<Vec<u32>> = cuts.map(|cuts| [&cuts[..], &[length]].concat()).collect();
+            for corners in lists_of(length as usize, &numbers) {
+                for ends in &ends {
+                    let cell = Cell {
+                        coords: coords.to_vec(),
+                        corners: corners.clone(),
+                        ends: ends.clone(),
+                    };
+                    ask_about(calls, TO_TURN, cell, random)?;
+                }
+            }
+        }
     }
     Ok(())
 }

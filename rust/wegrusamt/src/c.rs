@@ -135,6 +135,35 @@ pub fn into_ccw(coords: &[f64], corners: &mut [u32], ends: &[u32]) -> u8 {
     }
 }
 
+/// Turns the backward faces in `corners`, and answers in `out` how many.
+pub fn turn_faces(coords: &[f64], corners: &mut [u32], ends: &[u32], out: &mut [usize]) -> u8 {
+    unsafe extern "C" {
+        fn wegrusamt_turn_faces(
+            coords: *const f64,
+            coords_len: usize,
+            corners: *mut u32,
+            corners_len: usize,
+            ends: *const u32,
+            ends_len: usize,
+            out: *mut usize,
+            out_len: usize,
+        ) -> u8;
+    }
+    // SAFETY: see the head of this file.
+    unsafe {
+        wegrusamt_turn_faces(
+            coords.as_ptr(),
+            coords.len(),
+            corners.as_mut_ptr(),
+            corners.len(),
+            ends.as_ptr(),
+            ends.len(),
+            out.as_mut_ptr(),
+            out.len(),
+        )
+    }
+}
+
 // A list of planes passes as a list of numbers.
 const _: () = assert!(size_of::<Plane>() == 4 * size_of::<f64>());
 

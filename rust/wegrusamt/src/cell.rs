@@ -176,6 +176,27 @@ impl<'a> Cell<'a> {
         Refusal::answer(number, out[0] != 0)
     }
 
+    /// The corner list with the backward faces turned, so that the cell becomes closed, and how many
+    /// faces are reversed in it: see [`turn_faces()`], which turns a list in place.
+    ///
+    /// ```
+    /// use wegrusamt::Cell;
+    ///
+    /// let points = [[0.0; 3], [1.0, 0.0, 0.0], [0.0, 1.0, 0.0], [0.0, 0.0, 1.0]];
+    /// let corners = [0, 2, 1,  3, 1, 0,  1, 2, 3,  2, 0, 3];
+    /// let traced = Cell::new(&points, &corners, &[3, 6, 9, 12]);
+    ///
+    /// let (turned, reversed) = traced.turn_faces()?;
+    /// assert_eq!(reversed, 1);
+    /// assert_eq!(turned, [0, 2, 1,  0, 1, 3,  1, 2, 3,  2, 0, 3]);
+    /// # Ok::<(), wegrusamt::Refusal>(())
+    /// ```
+    pub fn turn_faces(&self) -> Result<(Vec<u32>, usize), Refusal> {
+        let mut corners = self.corners.to_vec();
+        let reversed = turn_faces(self.points, &mut corners, self.ends)?;
+        Ok((corners, reversed))
+    }
+
     /// Whether the cell is convex: every point lies on one side of the plane of each face. What is
     /// known of the shape is answered as it is, and computed only where it is unknown.
     pub fn is_convex(&self, known: Shape) -> Result<bool, Refusal> {
@@ -440,6 +461,44 @@ pub fn point_in_phed(
     let mut out = [0];
     let number = c::point_in_phed(points.as_flattened(), corners, x, y, z, &mut out);
     Refusal::answer(number, out[0] != 0)
+}
+
+/// Turns the backward faces in the corner list, so that the cell becomes closed, and answers how
+/// many it reversed. A reversed face keeps its stretch of the list: a, b, c, d becomes d, c, b, a.
+/// Of each group of faces joined by sides the lowest-numbered keeps its direction, so the whole
+/// group may run inward as it did: [`into_ccw()`] asks where the points lie, this does not.
+///
+/// Refused as [`Refusal::Size`] to [`Refusal::Index`], then as [`Refusal::Sides`], then as
+/// [`Refusal::Unclosable`]; the corners are then as they were. A face of no corners passes.
+///
+/// ```
+/// use wegrusamt::{Cell, turn_faces};
+///
+/// let points = [
+///     [0.0, 0.0, 0.0], [1.0, 0.0, 0.0], [1.0, 1.0, 0.0], [0.0, 1.0, 0.0],
+///     [0.0, 0.0, 1.0], [1.0, 0.0, 1.0], [1.0, 1.0, 1.0], [0.0, 1.0, 1.0],
+/// ];
+/// // The unit cube, its third face traced backward.
+/// let mut corners = [
+///     0, 3, 2, 1,  4, 5, 6, 7,  4, 5, 1, 0,
+///     2, 3, 7, 6,  1, 2, 6, 5,  3, 0, 4, 7,
+/// ];
+/// let ends = [4, 8, 12, 16, 20, 24];
+/// assert!(!Cell::new(&points, &corners, &ends).closed()?);
+///
+/// assert_eq!(turn_faces(&points, &mut corners, &ends)?, 1);
+/// assert_eq!(corners[8..12], [0, 1, 5, 4]);
+/// assert!(Cell::new(&points, &corners, &ends).closed()?);
+/// # Ok::<(), wegrusamt::Refusal>(())
+/// ```
+pub fn turn_faces(
+    points: &[[f64; 3]],
+    corners: &mut [u32],
+    ends: &[u32],
+) -> Result<usize, Refusal> {
+    let mut out = [0];
+    let number = c::turn_faces(points.as_flattened(), corners, ends, &mut out);
+    Refusal::answer(number, out[0])
 }
 
 /// Turns every face outward in the corner list: reverses a face whose normal points to the mean of

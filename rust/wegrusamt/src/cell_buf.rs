@@ -1,6 +1,6 @@
 //! A cell that owns its lists.
 
-use crate::{Cell, Refusal, into_ccw};
+use crate::{Cell, Refusal, into_ccw, turn_faces};
 
 /// A cell that owns its lists, to build one face by face and to turn its faces.
 ///
@@ -63,6 +63,28 @@ impl CellBuf {
     /// The cell over these lists, to ask.
     pub fn as_cell(&self) -> Cell<'_> {
         Cell::new(&self.points, &self.corners, &self.ends)
+    }
+
+    /// Turns the backward faces in the corner list, so that the cell becomes closed, and answers
+    /// how many it reversed: see [`turn_faces()`].
+    ///
+    /// ```
+    /// use wegrusamt::{CellBuf, Refusal};
+    ///
+    /// let mut cell = CellBuf::from_faces(
+    ///     [[0.0; 3], [1.0, 0.0, 0.0], [0.0, 1.0, 0.0], [0.0, 0.0, 1.0]],
+    ///     [[0, 2, 1], [3, 1, 0], [1, 2, 3], [2, 0, 3]],
+    /// );
+    /// assert_eq!(cell.turn_faces()?, 1);
+    /// assert!(cell.as_cell().closed()?);
+    ///
+    /// // With a face too few there is a side that only one face has.
+    /// let mut open = CellBuf::from_faces(cell.points.clone(), cell.as_cell().faces().take(3));
+    /// assert_eq!(open.turn_faces(), Err(Refusal::Sides));
+    /// # Ok::<(), Refusal>(())
+    /// ```
+    pub fn turn_faces(&mut self) -> Result<usize, Refusal> {
+        turn_faces(&self.points, &mut self.corners, &self.ends)
     }
 
     /// Turns every face outward in the corner list: see [`into_ccw()`].

@@ -1,6 +1,7 @@
 //! Cells with flat faces, measured by functions that are proved: volume, centroids, closedness,
-//! containment, convexity, planes, clipping and overlap. Each answers what document 01 of Wegrusamt
-//! says, bit for bit, or refuses with a [`Refusal`]; each ends on every input and keeps nothing.
+//! containment, convexity, turning of faces, planes, clipping and overlap. Each answers what
+//! documents 01 and 02 of Wegrusamt say, bit for bit, or refuses with a [`Refusal`]; each ends on
+//! every input and keeps nothing.
 //!
 //! ```
 //! use wegrusamt::CellBuf;
@@ -34,7 +35,8 @@ pub mod shapes;
 pub mod space;
 mod work;
 
-pub use cell::{Cell, Description, FACE_END, Plane, Shape, Survey, into_ccw, point_in_phed};
+pub use cell::{Cell, Description, FACE_END, Plane, Shape, Survey};
+pub use cell::{into_ccw, point_in_phed, turn_faces};
 pub use cell_buf::CellBuf;
 pub use refusal::Refusal;
 pub use work::WORK_NUMBERS;

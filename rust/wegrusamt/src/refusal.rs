@@ -3,7 +3,8 @@
 use std::error::Error;
 use std::fmt;
 
-/// Why a call is refused: document 01's table. The first of them that applies is answered.
+/// Why a call is refused: document 01's table, and document 02's refusals of turning. The first of
+/// them that applies is answered, [`Refusal::Room`] after all others.
 ///
 /// ```
 /// use wegrusamt::{Cell, Refusal};
@@ -30,20 +31,29 @@ pub enum Refusal {
     EmptyFace = 5,
     /// 6: a list that is written to is too short. Here that can only be a work list.
     Room = 6,
+    /// 11: a side between two different vertices, taken without direction, does not occur exactly
+    /// twice over all faces, or a face holds a vertex twice. Only the turning of backward faces
+    /// refuses it.
+    Sides = 11,
+    /// 12: no choice of faces to reverse closes the cell. Only the turning of backward faces
+    /// refuses it.
+    Unclosable = 12,
 }
 
 impl Refusal {
     /// All refusals, by their numbers.
-    pub const ALL: [Refusal; 6] = [
+    pub const ALL: [Refusal; 8] = [
         Refusal::Size,
         Refusal::Number,
         Refusal::Ends,
         Refusal::Index,
         Refusal::EmptyFace,
         Refusal::Room,
+        Refusal::Sides,
+        Refusal::Unclosable,
     ];
 
-    /// The refusal's number in document 01, from 1 to 6.
+    /// The refusal's number: 1 to 6 in document 01, 11 and 12 in document 02.
     pub const fn number(self) -> u8 {
         self as u8
     }
@@ -55,8 +65,9 @@ impl Refusal {
         if number == 0 {
             return Ok(value);
         }
-        match Refusal::ALL.get(usize::from(number) - 1) {
-            Some(&refusal) => Err(refusal),
+        let mut all = Refusal::ALL.into_iter();
+        match all.find(|refusal| refusal.number() == number) {
+            Some(refusal) => Err(refusal),
             None => panic!("the archive answers {number}, which is no refusal: is it Wegrusamt's?"),
         }
     }
@@ -71,6 +82,8 @@ impl fmt::Display for Refusal {
             Refusal::Index => "a corner or face number is out of range",
             Refusal::EmptyFace => "a face has no corners",
             Refusal::Room => "a list that is written to is too short",
+            Refusal::Sides => "a side does not occur exactly twice, or a face holds a vertex twice",
+            Refusal::Unclosable => "no choice of faces to reverse closes the cell",
         };
         write!(f, "refusal {}: {why}", self.number())
     }

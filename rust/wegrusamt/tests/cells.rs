@@ -1,7 +1,8 @@
-//! Document 01's rows and every refusal, asked through the crate.
+//! Document 01's rows, document 02's turning of backward faces and every refusal, asked through the
+//! crate.
 
 use wegrusamt::{Cell, CellBuf, Plane, Refusal, Shape, floats, into_ccw, planar, point_in_phed};
-use wegrusamt::{FACE_END, WORK_NUMBERS, leaves, shapes, space};
+use wegrusamt::{FACE_END, WORK_NUMBERS, leaves, shapes, space, turn_faces};
 
 const CUBE: [[f64; 3]; 8] = [
     [0.0, 0.0, 0.0],
@@ -52,6 +53,7 @@ fn refusals(cell: &Cell<'_>) -> Vec<Option<Refusal>> {
         cell.convex_intersection_volume(&other.as_cell()).err(),
         other.as_cell().convex_intersection_volume(cell).err(),
         into_ccw(cell.points, &mut corners, cell.ends).err(),
+        turn_faces(cell.points, &mut corners, cell.ends).err(),
     ]
 }
 
@@ -65,7 +67,7 @@ fn all_refuse(cell: &Cell<'_>, refusal: Refusal) {
 fn the_cube_is_measured() {
     let buf = cube_at(0.0);
     let cube = buf.as_cell();
-    assert_eq!(refusals(&cube), [None; 15]);
+    assert_eq!(refusals(&cube), [None; 16]);
     assert_eq!(cube.volume(), Ok(1.0));
     assert_eq!(cube.centroid(), Ok([0.5; 3]));
     assert_eq!(cube.geometric_centroid(), Ok([0.5; 3]));
@@ -122,6 +124,98 @@ fn faces_are_turned_outward() {
     turned.corners[20..].reverse();
     turned.into_ccw().unwrap();
     assert_eq!(turned, outward);
+}
+
+#[test]
+fn a_backward_face_is_turned() {
+    let whole = cube_at(0.0);
+    for face in 0..6 {
+        let mut cell = whole.clone();
+        cell.corners[4 * face..][..4].reverse();
+        assert_eq!(cell.as_cell().closed(), Ok(false));
+        let lowest = cell.corners[..4].to_vec();
+        let apart = cell.as_cell().turn_faces();
+        // The first face keeps its direction, so that where it is the backward one all others turn.
+        assert_eq!(cell.turn_faces(), Ok(if face == 0 { 5 } else { 1 }));
+        assert_eq!(
+            apart,
+            Ok((cell.corners.clone(), if face == 0 { 5 } else { 1 }))
+        );
+        assert_eq!(cell.corners[..4], lowest);
+        assert_eq!(cell.as_cell().closed(), Ok(true));
+        if face == 0 {
+            let inward = FACES.map(|[a, b, c, d]| [d, c, b, a]);
+            assert_eq!(cell.corners, inward.as_flattened());
+        } else {
+            assert_eq!(cell, whole);
+        }
+        let turned = cell.clone();
+        assert_eq!(cell.turn_faces(), Ok(0));
+        assert_eq!(cell, turned);
+    }
+}
+
+#[test]
+fn each_group_of_faces_is_turned_by_its_lowest() {
+    // Two cubes whose faces are listed in turn; of the second all but the lowest face run outward.
+    let there = FACES.map(|face| face.map(|corner| corner + 8));
+    let mut cell = CellBuf::new();
+    cell.points = [CUBE, CUBE].concat();
+    for (here, there) in FACES.iter().zip(&there) {
+        cell.push_face(here);
+        cell.push_face(there);
+    }
+    assert_eq!(cell.turn_faces(), Ok(0));
+    cell.corners[8..12].reverse();
+    cell.corners[4..8].reverse();
+    assert_eq!(cell.turn_faces(), Ok(1 + 5));
+    assert_eq!(cell.as_cell().closed(), Ok(true));
+    assert_eq!(cell.corners[..8], [0, 3, 2, 1, 9, 10, 11, 8]);
+    assert_eq!(cell.corners[8..16], [4, 5, 6, 7, 15, 14, 13, 12]);
+}
+
+/// The cell is refused as backward faces are turned, and its corners are as they were.
+fn is_not_turned(faces: &[&[u32]], refusal: Refusal) {
+    let mut cell = CellBuf::from_faces(CUBE, faces);
+    let before = cell.clone();
+    assert_eq!(cell.turn_faces(), Err(refusal), "{faces:?}");
+    assert_eq!(cell, before);
+}
+
+#[test]
+fn faces_that_cannot_be_turned_are_refused() {
+    // Sides that occur once, three times, four times.
+    is_not_turned(&[&[0, 1, 2]], Refusal::Sides);
+    is_not_turned(&[&[0, 1, 2], &[2, 1, 0], &[0, 1, 2]], Refusal::Sides);
+    is_not_turned(&[&[0, 1], &[0, 1]], Refusal::Sides);
+    // Every side twice, and a vertex twice in a face: beside itself, and not.
+    is_not_turned(&[&[0, 0]], Refusal::Sides);
+    is_not_turned(&[&[0, 1, 0, 2]], Refusal::Sides);
+    // A cube's three faces about a corner, opposite corners taken for one.
+    let hemicube: [&[u32]; 3] = [&[0, 1, 2, 3], &[0, 1, 3, 2], &[0, 2, 1, 3]];
+    is_not_turned(&hemicube, Refusal::Unclosable);
+    // The others come before.
+    is_not_turned(&[&[0, 1, 8]], Refusal::Index);
+    let wild = [[0.0, f64::NAN, 0.0]; 4];
+    let mut corners = hemicube.concat();
+    let answer = turn_faces(&wild, &mut corners, &[4, 8, 12]);
+    assert_eq!(answer, Err(Refusal::Number));
+    let answer = turn_faces(&CUBE, &mut corners, &[4, 8, 11]);
+    assert_eq!(answer, Err(Refusal::Ends));
+    let answer = turn_faces(&[], &mut corners, &[4, 8, 12]);
+    assert_eq!(answer, Err(Refusal::Size));
+    assert_eq!(corners, hemicube.concat());
+}
+
+#[test]
+fn thin_faces_keep_their_direction() {
+    let thin: [&[u32]; 4] = [&[], &[5], &[1, 0], &[5]];
+    let mut cell = CellBuf::from_faces(CUBE, thin);
+    assert_eq!(cell.turn_faces(), Ok(0));
+    assert_eq!(cell.corners, thin.concat());
+    let mut pillow = CellBuf::from_faces(CUBE, [[0, 1, 2], [0, 1, 2]]);
+    assert_eq!(pillow.turn_faces(), Ok(1));
+    assert_eq!(pillow.corners, [0, 1, 2, 2, 1, 0]);
 }
 
 #[test]
@@ -266,12 +360,14 @@ fn an_empty_face_is_refused_where_it_matters() {
     let before = buf.clone();
     assert_eq!(buf.into_ccw(), Err(Refusal::EmptyFace));
     assert_eq!(buf, before);
+    assert_eq!(buf.turn_faces(), Ok(0));
+    assert_eq!(buf, before);
 }
 
 #[test]
-fn refusals_have_the_numbers_of_document_01() {
+fn refusals_have_the_numbers_of_the_documents() {
     let numbers = Refusal::ALL.map(Refusal::number);
-    assert_eq!(numbers, [1, 2, 3, 4, 5, 6]);
+    assert_eq!(numbers, [1, 2, 3, 4, 5, 6, 11, 12]);
     let boxed: Box<dyn std::error::Error> = Box::new(Refusal::EmptyFace);
     assert_eq!(boxed.to_string(), "refusal 5: a face has no corners");
 }

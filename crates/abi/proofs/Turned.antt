@@ -40,7 +40,8 @@ module _ (coords : List Float) (corners ends out : List ℕ) where
   unfolding turnCode
   short-refused {why} e n = left why (or-found (roomCode 1 (length out)) e n) n
 
-  pub short-room : {why : ℕ} → why ≡ turnRefusal coords corners ends → why ≡ 0 → length out < 1 → TurnsInto coords corners ends out 6 corners out
+  pub short-room : {why : ℕ} → why ≡ turnRefusal coords corners ends → why ≡ 0 → length out < 1
+      → TurnsInto coords corners ends out 6 corners out
   unfolding turnCode
   short-room e z h = left 6 (or-other (roomCode 1 (length out)) e z (rw (lt-ltb (length out) 1 h))) (λ q. absurd (omega arith))
 
@@ -77,7 +78,8 @@ module _ (coords : List Float) (corners ends out : List ℕ) where
           }
 
 -- ---- two outcomes that the promise under the C name allows are equal
-module _ {coords : List Float} {corners ends out : List ℕ} {code : ℕ} {after out′ : List ℕ} (t : TurnsInto coords corners ends out code after out′) where
+module _ {coords : List Float} {corners ends out : List ℕ} {code : ℕ} {after out′ : List ℕ}
+    (t : TurnsInto coords corners ends out code after out′) where
   -- 0 says that the condition on sides holds
   fit : code ≡ 0 → Twice (facesOf corners ends)
   unfolding turnCode turnRefusal unturnable
@@ -89,11 +91,13 @@ module _ {coords : List Float} {corners ends out : List ℕ} {code : ℕ} {after
   alike : {after″ out″ : List ℕ} → TurnsInto coords corners ends out code after″ out″ → (after ≡ after″) × (out′ ≡ out″)
   alike {after″} {out″} u = (same .0, t .written ∙ go (eqb code 0) refl ∙ sym (u .written))
     where
-      same : (after ≡ after″) × (code ≡ 0 → howMany (t .choice) (length (facesOf corners ends)) ≡ howMany (u .choice) (length (facesOf corners ends)))
+      same : (after ≡ after″)
+          × (code ≡ 0 → howMany (t .choice) (length (facesOf corners ends)) ≡ howMany (u .choice) (length (facesOf corners ends)))
       same = one-outcome code (facesOf corners ends) (t .choice) (u .choice) corners after after″ fit (t .turned) (u .turned)
 
       go : (b : Bool) → eqb code 0 ≡ b
-          → pick b (front (howMany (t .choice) (length ends) ∷ []) out) out ≡ pick b (front (howMany (u .choice) (length ends) ∷ []) out) out
+          → pick b (front (howMany (t .choice) (length ends) ∷ []) out) out
+          ≡ pick b (front (howMany (u .choice) (length ends) ∷ []) out) out
       go true e = ap (λ n. front (n ∷ []) out) (rw (length-faces corners ends) at (same .1 (eqb-true code 0 e)))
       go false e = refl
 

@@ -56,7 +56,8 @@ pub extern "C" fn wegrusamt_into_ccw(coords: &[f64], corners: &mut [u32], ends: 
     values::done_code(geometry::into_ccw(coords, corners, ends))
 }
 
-// One number: how many faces were reversed. Where `out` has no room for it, only the refusal is computed, and the corner list stays as it was.
+// One number: how many faces were reversed. Where `out` has no room for it, only the refusal is computed,
+// and the corner list stays as it was.
 #[no_mangle]
 pub extern "C" fn wegrusamt_turn_faces(
     coords: &[f64],

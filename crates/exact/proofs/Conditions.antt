@@ -15,7 +15,8 @@ use Rattle.places.specs.Loops.{pick, anyOf}
 use Rattle.places.specs.Lists.{Each}
 use Rattle.places.proofs.Lists.{each-nil, each-cons, each-head, each-tail}
 use Rattle.exact.specs.Sides.{allSides, hits, count, runs, Closed}
-use Rattle.exact.specs.Facing.{reversedBy, occurs, Twice, Single, Fit, strange, doubled, unfit, choices, choiceOf, closesBy, unclosable}
+use Rattle.exact.specs.Facing.{reversedBy, occurs, Twice, Single, Fit}
+use Rattle.exact.specs.Facing.{strange, doubled, unfit, choices, choiceOf, closesBy, unclosable}
 use Rattle.exact.proofs.Balance.{hits-eq}
 use Rattle.exact.proofs.Reversed.{same-faces}
 use Rattle.exact.proofs.Test.{closed-is}

@@ -49,8 +49,8 @@ againstOf m up = pick (Bool·beq (downOf m) up) 1 2
 -- after the neighbour of the mark m was asked: it was reached before, or it is now, and stands last in the list
 pub data Met (t list : List ℕ) (tail m : ℕ) (up : Bool) (t′ list′ : List ℕ) (tail′ : ℕ) : Type 0 where
   as-was : (0 < m → 0 < getD t (faceOf m) 0) → t′ ≡ t → list′ ≡ list → tail′ ≡ tail → Met t list tail m up t′ list′ tail′
-  now-reached : 0 < m → getD t (faceOf m) 0 ≡ 0 → t′ ≡ set t (faceOf m) (againstOf m up) → list′ ≡ set list tail (faceOf m) → tail′ ≡ tail + 1
-      → Met t list tail m up t′ list′ tail′
+  now-reached : 0 < m → getD t (faceOf m) 0 ≡ 0 → t′ ≡ set t (faceOf m) (againstOf m up) → list′ ≡ set list tail (faceOf m)
+      → tail′ ≡ tail + 1 → Met t list tail m up t′ list′ tail′
 
 -- ---- all faces
 -- s is in the group of f, and all faces up to s are reached

@@ -1,5 +1,6 @@
-// Which faces of a cell are to be reversed so that it becomes closed, and their reversal. From the lowest face of a group on, each face asks its neighbours,
-// the faces with which it shares a side: one that was not reached before is turned against it, and waits its turn in a list.
+// Which faces of a cell are to be reversed so that it becomes closed, and their reversal. From the lowest face of a group on,
+// each face asks its neighbours, the faces with which it shares a side: one that was not reached before is turned against it,
+// and waits its turn in a list.
 ghost use mathlib.Core.Path.{_≡_};
 ghost use mathlib.Core.Logic.{_≢_};
 ghost use mathlib.Core.Bool.{Bool, true, false};
@@ -19,7 +20,8 @@ ghost use Rattle.mates.specs.Marks.{faceOf, runsUp, firstAt, secondAt, Mates};
 ghost use Rattle.facing.specs.Refused.{unturnable};
 ghost use Rattle.facing.specs.Steps.{codeChoice, Ground, neighbourOf, upOf, againstOf, Met, Spread, Waiting, Seeded, Whole, clash, clashFace, clashFaces, Marked, Chosen};
 
-// How far the faces are reached: all before `low`, those in the list before `tail`; and those there before `head` have asked their neighbours.
+// How far the faces are reached: all before `low`, and those in the list before `tail`;
+// of these, those before `head` have asked their neighbours.
 struct Reached {
     low: usize,
     head: usize,
@@ -56,7 +58,8 @@ fn against(m: u16, up: bool) -> u8
     if mates::is_down(m) == up { 1 } else { 2 }
 }
 
-// The neighbour at a side is asked: one that was not reached before is turned against the asking face, which runs the side up or not, and comes into the list.
+// The neighbour at a side is asked: one that was not reached before is turned against the asking face, which runs the side
+// up or not, and comes into the list.
 fn meet(code: &mut [u8], list: &mut [u8], tail: usize, m: u16, up: bool) -> usize
     requires { ⌜ (0 < m → faceOf m < length (now code)) × (length (now code) ≤ 256) ⌝ }
     requires { ⌜ (0 < m → getD (now code) (faceOf m) 0 ≡ 0 → tail < length (now list)) × (length (now list) ≤ 256) ⌝ }
@@ -311,7 +314,8 @@ pub fn reverse_faces(corners: &mut [u32], ends: &[u32], code: &[u8]) -> usize
     count
 }
 
-// Why no faces are reversed, 0 where some may be, by way of a table of zeros with room for k rows and k columns; then the codes are the choice.
+// Why no faces are reversed, 0 where some may be, by way of a table of zeros with room for k rows and k columns;
+// where it is 0 the codes are the choice.
 fn choose_over(
     table: &mut [u16],
     number: &[u16],

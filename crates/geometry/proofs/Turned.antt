@@ -1,4 +1,5 @@
--- The ways in which turn_faces answers, each by the promise: a check of the cell refuses, no choice is made, or the faces stand as the codes have them.
+-- The ways in which turn_faces answers, each by the promise: a check of the cell refuses, no choice is made,
+-- or the faces stand as the codes have them.
 use mathlib.Core.Path.{_≡_, refl, sym, _∙_}
 use mathlib.Core.Logic.{_≢_}
 use mathlib.Core.Bool.{Bool, false}
@@ -35,7 +36,8 @@ module _ (coords : List Float) (corners ends : List ℕ) where
   unfolding turnRefusal
   turn-refused {why} e n = left why (or-found (unturnable (facesOf corners ends)) e n) n
 
-  module _ {why : ℕ} (e : why ≡ cellRefusal coords corners ends) (z : why ≡ 0) {t : List ℕ} {none : ℕ} (c : Chosen (facesOf corners ends) t none) where
+  module _ {why : ℕ} (e : why ≡ cellRefusal coords corners ends) (z : why ≡ 0) {t : List ℕ} {none : ℕ}
+      (c : Chosen (facesOf corners ends) t none) where
     number : none ≡ turnRefusal coords corners ends
     unfolding turnRefusal
     number = or-other (unturnable (facesOf corners ends)) e z (c .why)

@@ -11,8 +11,8 @@ use Rattle.refusals.specs.Refusals.{turnRefusal}
 use Rattle.geometry.specs.declared.Count.{Count}
 use Rattle.geometry.specs.Answers.{countOr}
 
--- on success how many faces the choice reverses that closes the cell and leaves the lowest face of each group as it is, and the corners after it;
--- else the refusal, and the corners as they were: then nothing depends on the choice
+-- on success how many faces the choice reverses that closes the cell and leaves the lowest face of each group as it is,
+-- and the corners after it; else the refusal, and the corners as they were: then nothing depends on the choice
 pub record TurnsTo (coords : List Float) (corners ends : List ℕ) (r : Count) (after : List ℕ) : Type 0 where
   pub choice : ℕ → Bool
   pub answer : r ≡ countOr (turnRefusal coords corners ends) (howMany choice (length ends))

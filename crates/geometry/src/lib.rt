@@ -267,7 +267,7 @@ pub fn into_ccw(coords: &[f64], corners: &mut [u32], ends: &[u32]) -> Done
 
 // The backward faces turned: some faces are reversed, each in its own stretch of the corner list, so that the cell becomes closed.
 // The answer is how many.
-// Ruled out: the lowest face of a group reversed; 12 although a choice of reversals closes the cell; a refused list of which some faces are reversed.
+// Ruled out: the lowest face of a group reversed; 12 although a choice of reversals closes the cell; a refused list that is changed.
 pub fn turn_faces(coords: &[f64], corners: &mut [u32], ends: &[u32]) -> Count
     ensures { λ r. ⌜ TurnsTo (now (coords .entry)) (now (corners .entry)) (now (ends .entry)) r (now (corners .exit)) ⌝ }
 {

@@ -1,5 +1,4 @@
 pub mod Marks
 pub mod Table
 pub mod Full
-pub mod Pairs
 pub mod Stamps

@@ -1,5 +1,6 @@
-// For each side of a cell the two faces that have it. Each face leaves a mark at its sides, in a table with a row and a column for each vertex that occurs:
-// at the side between a lower and a higher vertex the first mark stands in the lower one's row, the second in the higher one's.
+// For each side of a cell the two faces that have it. Each face leaves a mark at its sides, in a table with a row and a column
+// for each vertex that occurs: at the side between a lower and a higher vertex the first mark stands in the lower one's row,
+// the second in the higher one's.
 ghost use mathlib.Core.Path.{_≡_};
 ghost use mathlib.Core.Bool.{Bool, true, false, not, _&&_};
 ghost use mathlib.Core.List.{[], _∷_};

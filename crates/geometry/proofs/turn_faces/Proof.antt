@@ -1,4 +1,4 @@
--- `geometry::turn_faces` meets its contract: a cell that passes the checks is sound, so the room may choose, and each of the three ends is one of the promise's.
+-- `geometry::turn_faces` meets its contract: a cell that passes the checks is sound, so the room may choose, and all three ends are promised.
 use mathlib.Core.Path.{sym, _∙_}
 use mathlib.Core.List.{[]}
 use Prim.Native.Nat.{ℕ}

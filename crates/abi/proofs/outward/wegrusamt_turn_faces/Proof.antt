@@ -1,4 +1,4 @@
--- `abi::outward::wegrusamt_turn_faces` meets its contract: where `out` is too short the refusal alone is asked, else the entry's promise gives all.
+-- `abi::outward::wegrusamt_turn_faces` meets its contract: where `out` is too short only the refusal is asked, else the entry promises all.
 use Rattle.abi.proofs.Turned.{short-refused, short-room, long}
 use borrow.Author.Needs.{needs}
 use Rattle.abi.proofs.outward.wegrusamt_turn_faces.Statement.{statement}
@@ -8,7 +8,8 @@ returns : tie.Need-returns
 returns c =
     let start : tie.Start = search in
     let args = start .args in
-    short-refused (args .coords .now) (args .corners .now) (args .ends .now) (args .out .now) (c .before .turn-refusal .ensures) (c .if2 .taken)
+    let found = c .before .turn-refusal in
+    short-refused (args .coords .now) (args .corners .now) (args .ends .now) (args .out .now) (found .ensures) (c .if2 .taken)
 
 returns-2 : tie.Need-returns-2
 returns-2 c =

@@ -8,17 +8,32 @@ HERE = os.path.dirname(os.path.abspath(__file__))
 TOP = os.path.dirname(os.path.dirname(HERE))
 ORACLE = os.path.join(TOP, 'rust', 'oracle')
 
-# The numbers of the entries, as crates/asked has them. bounds_of_points is bounds of the list of points;
-# survey_of_queries is survey_cell with its query points behind the vertices.
-ENTRY = {name: k + 1 for k, name in enumerate((
-    'volume', 'centroid', 'geometric_centroid', 'bounds', 'scale', 'closed', 'contains', 'point_in_phed', 'newell_normal',
-    'triangles', 'root', 'survey_cell', 'vertex_centroid', 'bounds_of_points', 'signed_area2', 'is_convex', 'into_ccw',
-    'plane_of_face', 'tet_volume', 'wedge_volume', 'hex_volume', 'tet_contains', 'wedge_contains', 'hex_contains',
-    'segment_plane_intersection', 'plane_same_side', 'plane_coplanar_opposite', 'cross2', 'dominant_axis', 'project2',
-    'segment_intersection', 'into_ccw2', 'vertex_centroid2', 'bounds2', 'describe', 'clip_face', 'clip_convex',
-    'convex_intersection_area', 'convex_intersection_volume', 'survey_of_queries', 'turn_faces'))}
+# The C names without their prefix: the number by which crates/questions knows the entry, how many numbers it answers in a list
+# and how many counts. survey_of_queries is survey with its query points behind the vertices.
+ENTRY = {
+    'volume': (10, 1, 0), 'centroid': (11, 3, 0), 'geometric_centroid': (12, 3, 0), 'bounds': (13, 6, 0), 'scale': (14, 1, 0),
+    'plane_of_face': (19, 4, 0), 'closed': (20, 0, 1), 'contains': (21, 0, 1), 'point_in_phed': (22, 0, 1),
+    'is_convex': (23, 0, 1), 'describe': (24, 0, 4), 'survey': (30, 1, 4), 'survey_of_queries': (31, 1, 4),
+    'newell_normal': (40, 3, 0), 'vertex_centroid': (41, 3, 0), 'list_bounds': (42, 6, 0), 'signed_area2': (43, 1, 0),
+    'vertex_centroid2': (44, 2, 0), 'bounds2': (45, 4, 0), 'tet_volume': (50, 1, 0), 'wedge_volume': (51, 1, 0),
+    'hex_volume': (52, 1, 0), 'tet_contains': (53, 0, 1), 'wedge_contains': (54, 0, 1), 'hex_contains': (55, 0, 1),
+    'magnitude': (60, 0, 0), 'least': (61, 0, 0), 'largest': (62, 0, 0), 'root': (63, 0, 0), 'length': (64, 0, 0),
+    'pattern': (65, 0, 0), 'of_pattern': (66, 0, 0), 'cross2': (70, 0, 0), 'dominant_axis': (71, 0, 0),
+    'plane_same_side': (72, 0, 0), 'plane_coplanar_opposite': (73, 0, 0), 'project2': (74, 2, 0),
+    'segment_intersection': (75, 2, 0), 'segment_plane_intersection': (76, 3, 0), 'into_ccw': (80, 0, 0),
+    'turn_faces': (81, 0, 1), 'into_ccw2': (82, 0, 0), 'triangles': (90, 0, 1), 'clip_face': (100, 0, 2),
+    'clip_convex': (101, 0, 2), 'convex_intersection_area': (102, 1, 0), 'convex_intersection_volume': (103, 1, 0)}
 
-ARGUMENTS, NUMBERS = 5, 6
+# The entries that measure a cell and take nothing else.
+MEASURES = [name for name, (k, *_) in ENTRY.items() if 10 <= k < 19]
+
+# Rust leaves the sign of a least or greatest zero open: there a zero of either sign is the same, and is stored as +0.
+ZEROS = ('bounds', 'scale', 'list_bounds', 'bounds2')
+
+# A question's words: the entry, so many arguments, the code, whether zeros are the same, and the lists.
+ARGUMENTS = 3
+CODE = 1 + ARGUMENTS
+LISTS = CODE + 2
 
 # What a lent list holds before the call: a number that no corner has, and the least positive f64.
 MARK, FILLER = 4294967295, 1
@@ -116,6 +131,11 @@ def shortened(words):
     return ' '.join(words) if len(words) <= 96 else ' '.join(words[:9]) + f' .. ({len(words)} in all)'
 
 
+def after(answer, places, mark):
+    """A list of so many places that had marks before the answer was written to its front."""
+    return [*answer, *[mark] * (places - len(answer))]
+
+
 class Case:
     """A line of the list. `told` names the parts of its coordinates where they are not the vertices of one cell."""
 
@@ -123,30 +143,50 @@ class Case:
         self.oracle, self.name, self.cell, self.remark = oracle, name, cell, remark
         self.told = {'vertices': cell[0]} if told is None else told
         self.questions, self.lines = [], []
+        self.short = (0, 0)
 
-    def put(self, entry, arguments, why, numbers, shown='', lent=()):
-        """A question and its answer. `lent` has every number of each lent list after the call."""
-        arguments = list(arguments) + [0] * (ARGUMENTS - len(arguments))
-        answer = [0] * NUMBERS if why else list(numbers) + [0] * (NUMBERS - len(numbers))
-        words = [ENTRY[entry], *arguments, why, *answer, *(w for ws in lent for w in ws)]
-        self.questions.append([len(words), *words])
-        self.lines.append(f'    {entry}{shown} = ' + (f'refused {why}' if why else ' '.join(plain(entry, numbers))))
-        self.lines[-1] += ''.join(' | lent list: ' + plain_list(entry, ws) for ws in lent)
+    def places(self, entry):
+        """How long the lists for numbers and counts are: one place more than the answer, less what is asked for."""
+        return [max(n + 1 - short, 0) if n else 0 for n, short in zip(ENTRY[entry][1:], self.short)]
 
-    def said(self, why, numbers=None, lent=None):
-        """Stops where an answer is not the one that the documents state."""
-        for q in self.questions:
-            answer, after = q[3 + ARGUMENTS:], q[3 + ARGUMENTS + NUMBERS:]
-            refused = q[2 + ARGUMENTS]
-            other = numbers is not None and answer[:len(numbers)] != numbers
-            if refused != why or other or (lent is not None and after != lent):
-                raise SystemExit(f'{self.name} is not as the documents have it: {q}')
+    def refused(self, entry, why):
+        """The refusal, or 6 where a list is too short for the answer."""
+        return why or (6 if any(n > places for n, places in zip(ENTRY[entry][1:], self.places(entry))) else 0)
+
+    def in_short_lists(self, entry, ask):
+        """Asks with every shorter length of the two lists, from those that have no place to spare to those that have none."""
+        for short in itertools.product(*(range(n + 2 if n else 1) for n in ENTRY[entry][1:])):
+            self.short = short
+            if any(short):
+                ask()
+        self.short = (0, 0)
+
+    def put(self, entry, arguments, why, values=(), counts=(), shown='', lent=None, code=0):
+        """A question and its answer. `lent` has every number of each other list after the call; a leaf returns `code`."""
+        why, number, lists = self.refused(entry, why), ENTRY[entry][0], {}
+        for kind, answer, places, mark in zip(('numbers', 'counts'), (values, counts), self.places(entry), (FILLER, MARK)):
+            lists[kind] = after(() if why else answer, places, mark)
+        if entry in ZEROS:
+            lists['numbers'] = [0 if b == 1 << 63 else b for b in lists['numbers']]
+        lists.update(lent or {})
+        words = [number, *arguments, *[0] * (ARGUMENTS - len(arguments)), why or code, int(entry in ZEROS)]
+        for ws in lists.values():
+            words += [len(ws), *ws]
+        self.questions.append((words, lists))
+        answer = f'refused {why}' if why else 'done' if lent or any(self.places(entry)) else f'{code:X}'
+        self.lines.append(f'    {entry}{shown} = {answer}' + ''.join(f' | {kind} {plain(kind, ws)}' for kind, ws in lists.items() if ws))
+
+    def said(self, code, **said):
+        """Stops where an answer is not the one that the documents state: the code, or the front of a list."""
+        for words, lists in self.questions:
+            if words[CODE] != code or any(lists[kind][:len(ws)] != ws for kind, ws in said.items()):
+                raise SystemExit(f'{self.name} is not as the documents have it: {words}')
 
     def stored(self):
         coords, corners, ends = self.cell
         words = [len(coords), len(corners), len(ends), *[bits(x) for x in coords], *corners, *ends]
-        for q in self.questions:
-            words += q
+        for q, _ in self.questions:
+            words += [len(q), *q]
         if len(words) > 8192 or len(coords) > 1280 or len(corners) > 4096 or len(ends) > 512:
             raise SystemExit(f'{self.name} is longer than the program reads')
         return self.name + ' ' + ' '.join(f'{w:X}' for w in words)
@@ -160,33 +200,11 @@ class Case:
         return '\n'.join(head + self.lines)
 
 
-YES_OR_NO = ('closed', 'contains', 'point_in_phed', 'is_convex', 'tet_contains', 'wedge_contains', 'hex_contains',
-             'plane_same_side', 'plane_coplanar_opposite')
-
-
-def plain(entry, numbers):
-    """An answer as it is read."""
-    if entry in YES_OR_NO:
-        return ['yes' if n else 'no' for n in numbers]
-    if entry in ('survey_cell', 'survey_of_queries'):
-        t, is_closed, short, volume, inside = numbers
-        return [f't {t} closed {"yes" if is_closed else "no"} short {short} vol {volume:016X} in {inside}']
-    if entry in ('clip_face', 'clip_convex'):
-        count, second = numbers
-        return [f'{count} points in the {"second" if second else "first"} list' if count else 'nothing']
-    if entry in ('into_ccw', 'into_ccw2'):
-        return ['done']
-    if entry == 'describe':
-        return [*map(str, numbers[:3]), SHAPES[numbers[3]]]
-    return [str(n) if entry in ('triangles', 'turn_faces', 'dominant_axis') else f'{n:016X}' for n in numbers]
-
-
-def plain_list(entry, words):
+def plain(kind, words):
     """A lent list as it is read: - is a place that stays as it was."""
-    if entry in ('triangles', 'into_ccw', 'turn_faces'):
-        return shortened(['-' if n == MARK else str(n) for n in words])
-    read = []
-    for n, run in itertools.groupby('-' if n == FILLER else f'{n:X}' for n in words):
+    whole_numbers = kind in ('counts', 'corners', 'triangles')
+    read, mark = [], MARK if whole_numbers else FILLER
+    for n, run in itertools.groupby('-' if n == mark else str(n) if whole_numbers else f'{n:X}' for n in words):
         times = len(list(run))
         read += [n] * times if times < 4 else [f'{n} ({times} times)']
     return shortened(read)

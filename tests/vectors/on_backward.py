@@ -89,7 +89,7 @@ def backward(oracle, rng):
     for name, vertices, face_list, why, turned in rows + [(*row, ()) for row in refused()]:
         c = CellCase(oracle, name, cell_of(vertices, face_list), f'refused {why}' if why else f'{len(turned)} of {len(face_list)} faces reversed')
         c.turn_faces()
-        c.said(why, [len(turned)], cell_of(vertices, back(face_list, turned))[1])
+        c.said(why, counts=[] if why else [len(turned)], corners=cell_of(vertices, back(face_list, turned))[1])
         c.is_closed()
         out.append(c)
     return out

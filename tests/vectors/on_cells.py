@@ -1,68 +1,62 @@
 """Questions about a cell or a list of points."""
 import math
 
-from asking import Case, MARK, SHAPES, bits, cell_words, flat, hexes, in_parts, points, read_points, whole
+from asking import Case, MARK, MEASURES, SHAPES, after, bits, cell_words, flat, hexes, in_parts, points, read_points, whole
 from cells import CUBE, HEX8, SEVEN, TETRA, box, cell_of, damage, prism, queries, torn
 from sides import closed, turned
 from table import LIMIT, faces, faces_refusal, list_refusal, phed_refusal, plane_refusal, refusal, survey_refusal
-
-
-def of_value(patterns):
-    """Rust leaves the sign of a least or greatest zero open, so there a zero is stored as +0."""
-    return [0 if b == 1 << 63 else b for b in patterns]
 
 
 class CellCase(Case):
     def measure(self, entry):
         """A number, a point or a box of the cell."""
         why = refusal(self.cell)
-        got = [] if why else self.oracle.patterns(entry, cell_words(self.cell))
-        self.put(entry, [], why, of_value(got) if entry in ('bounds', 'scale') else got)
+        self.put(entry, [], why, [] if why else self.oracle.patterns(entry, cell_words(self.cell)))
 
     def is_closed(self):
         why = refusal(self.cell)
-        self.put('closed', [], why, [] if why else [int(closed(faces(self.cell)))])
+        self.put('closed', [], why, counts=[] if why else [int(closed(faces(self.cell)))])
 
     def holds(self, p):
         return self.oracle.yes('contains', f'{cell_words(self.cell)} {hexes(p)}')
 
     def contains(self, p):
         why = refusal(self.cell, query=p)
-        self.put('contains', [bits(x) for x in p], why, [] if why else [self.holds(p)], f' {p}')
+        self.put('contains', [bits(x) for x in p], why, counts=[] if why else [self.holds(p)], shown=f' {p}')
 
     def in_phed(self, p):
         coords, entries, _ = self.cell
         why = phed_refusal(coords, entries, p)
         got = [] if why else [self.oracle.yes('point_in_phed', f'{hexes(p)} {points(coords)} {whole(entries)}')]
-        self.put('point_in_phed', [bits(x) for x in p], why, got, f' {p}')
+        self.put('point_in_phed', [bits(x) for x in p], why, counts=got, shown=f' {p}')
 
     def surveyed(self, ps):
-        """What the cell report says, with these query points."""
+        """What the cell report says, with these query points: the volume, and the counts."""
         cut = [(len(f), self.cut(f)[0]) for f in faces(self.cell)]
-        return [sum(t for _, t in cut), int(closed(faces(self.cell))), sum(t < n - 2 for n, t in cut if n >= 3),
-                *self.oracle.patterns('volume', cell_words(self.cell)), sum(self.holds(p) for p in ps)]
+        counts = [sum(t for _, t in cut), int(closed(faces(self.cell))), sum(t < n - 2 for n, t in cut if n >= 3), sum(self.holds(p) for p in ps)]
+        return self.oracle.patterns('volume', cell_words(self.cell)), counts
 
     def survey(self, p):
         why = refusal(self.cell, query=p)
-        self.put('survey_cell', [bits(x) for x in p], why, [] if why else self.surveyed([p]), f' {p}')
+        self.put('survey', [bits(x) for x in p], why, *([], []) if why else self.surveyed([p]), f' {p}')
 
     def point_lists(self):
         """The vertices as a list of points."""
-        why, words = list_refusal(self.cell[0]), points(self.cell[0])
-        names = {'newell_normal': 'newell_normal', 'vertex_centroid': 'vertex_centroid3', 'bounds_of_points': 'bounds_iter3'}
-        for entry, name in names.items():
-            got = [] if why else self.oracle.patterns(name, words)
-            self.put(entry, [], why, of_value(got) if entry == 'bounds_of_points' else got)
+        for entry in ('newell_normal', 'vertex_centroid', 'list_bounds'):
+            self.list_of_points(entry, list_refusal(self.cell[0]), 3)
+
+    def list_of_points(self, entry, why, size):
+        name = {'vertex_centroid': 'vertex_centroid3', 'list_bounds': 'bounds_iter3', 'bounds2': 'bounds_iter2'}.get(entry, entry)
+        self.put(entry, [], why, [] if why else self.oracle.patterns(name, points(self.cell[0], size)))
 
     def outline(self):
         """The coordinates as a list of points of the plane."""
         coords = self.cell[0]
         why, words = plane_refusal(coords), points(coords, 2)
-        for entry, name in {'signed_area2': 'signed_area2', 'vertex_centroid2': 'vertex_centroid2', 'bounds2': 'bounds_iter2'}.items():
-            got = [] if why else self.oracle.patterns(name, words)
-            self.put(entry, [], why, of_value(got) if entry == 'bounds2' else got)
-        after = coords if why else flat(read_points(self.oracle.ask('into_ccw2', words)[1:], 2))
-        self.put('into_ccw2', [], why, [], lent=[[bits(x) for x in after]])
+        for entry in ('signed_area2', 'vertex_centroid2', 'bounds2'):
+            self.list_of_points(entry, why, 2)
+        turned_list = coords if why else flat(read_points(self.oracle.ask('into_ccw2', words)[1:], 2))
+        self.put('into_ccw2', [], why, lent={'outline': [bits(x) for x in turned_list]})
 
     def cut(self, face):
         return [int(w) for w in self.oracle.ask('ear_clip_triangles', f'{points(self.cell[0])} {whole(face)}')]
@@ -72,39 +66,40 @@ class CellCase(Case):
         sound = face < len(self.cell[2]) and not refusal(self.cell)
         n = len(faces(self.cell)[face]) if sound else 3
         room = max(n - 2, 0) + 1 if room is None else room
-        why = refusal(self.cell, face=face, room=room)
-        count, *lent = [0] if why else self.cut(faces(self.cell)[face])
-        lent += [MARK] * (3 * room - len(lent))
-        self.put('triangles', [face, room], why, [count], f' face {face}, {room} places', [lent])
+        why = self.refused('triangles', refusal(self.cell, face=face, room=room))
+        count, *cut = [0] if why else self.cut(faces(self.cell)[face])
+        self.put('triangles', [face], why, counts=[count], shown=f' face {face}, {room} places', lent={'triangles': after(cut, 3 * room, MARK)})
 
-    def shape(self):
-        """The description, and whether the cell is convex, for each thing that may be known of it."""
+    def shape(self, numbers=range(3)):
+        """The description, and whether the cell is convex, for each thing that may be known of it, by its number."""
         coords, corners, ends = self.cell
         why = refusal(self.cell)
-        for k, known in enumerate(SHAPES):
-            self.put('describe', [k], why, [len(coords) // 3, len(corners), len(ends), k], f' {known}')
+        for k in numbers:
+            known = SHAPES[min(k, 2)]
+            self.put('describe', [k], why, counts=[len(coords) // 3, len(corners), len(ends), min(k, 2)], shown=f' {k}: {known}')
             got = [] if why else [self.oracle.yes('is_convex', f'{cell_words(self.cell)} {known}')]
-            self.put('is_convex', [k], why, got, f' {known}')
+            self.put('is_convex', [k], why, counts=got, shown=f' {k}: {known}')
 
     def turning(self):
         """The corners after every face is turned outward."""
         why = faces_refusal(self.cell)
-        after = self.cell[1] if why else [int(w) for w in self.oracle.ask('into_ccw', cell_words(self.cell))[1:]]
-        self.put('into_ccw', [], why, [], lent=[after])
+        corners = self.cell[1] if why else [int(w) for w in self.oracle.ask('into_ccw', cell_words(self.cell))[1:]]
+        self.put('into_ccw', [], why, lent={'corners': corners})
 
     def turn_faces(self):
         """How many backward faces are turned, and the corners after that."""
-        why, count, after = turned(self.cell)
-        self.put('turn_faces', [], why, [count], lent=[after])
+        why, count, corners = turned(self.cell)
+        corners = self.cell[1] if self.refused('turn_faces', why) else corners
+        self.put('turn_faces', [], why, counts=[count], lent={'corners': corners})
 
     def plane(self, face):
         why = faces_refusal(self.cell, face)
         words = '' if why else f'{points(self.cell[0])} {whole(faces(self.cell)[face])}'
         got = [] if why else self.oracle.patterns('plane_of_face', words, 'ruled')
-        self.put('plane_of_face', [face], why, got, f' face {face}')
+        self.put('plane_of_face', [face], why, got, shown=f' face {face}')
 
     def all(self, ps):
-        for entry in ('volume', 'centroid', 'geometric_centroid', 'bounds', 'scale'):
+        for entry in MEASURES:
             self.measure(entry)
         self.is_closed()
         self.turn_faces()
@@ -121,6 +116,19 @@ class CellCase(Case):
         for k in self.faces_asked():
             self.plane(k)
 
+    def all_in_short_lists(self, p):
+        """Every entry that answers in a list, also with a number for the shape that says nothing."""
+        for entry in MEASURES:
+            self.in_short_lists(entry, lambda entry=entry: self.measure(entry))
+        for entry, ask in (('closed', self.is_closed), ('contains', lambda: self.contains(p)), ('describe', lambda: self.shape((2, 255))),
+                           ('turn_faces', self.turn_faces), ('triangles', lambda: self.triangles(0)), ('survey', lambda: self.survey(p)),
+                           ('plane_of_face', lambda: self.plane(0)), ('point_in_phed', lambda: self.in_phed(p))):
+            self.in_short_lists(entry, ask)
+        for entry in ('newell_normal', 'vertex_centroid', 'list_bounds'):
+            self.in_short_lists(entry, lambda entry=entry: self.list_of_points(entry, list_refusal(self.cell[0]), 3))
+        for entry in ('signed_area2', 'vertex_centroid2', 'bounds2'):
+            self.in_short_lists(entry, lambda entry=entry: self.list_of_points(entry, plane_refusal(self.cell[0]), 2))
+
     def faces_asked(self):
         return range(len(self.cell[2]) if not refusal(self.cell) else 1)
 
@@ -132,8 +140,8 @@ class SurveyCase(Case):
         coords, corners, ends = cell
         super().__init__(oracle, name, (coords + asked, corners, ends), remark, {'vertices': coords, 'query points': asked})
         why = survey_refusal(cell, asked)
-        got = [] if why else CellCase(oracle, name, cell).surveyed(in_parts(asked, 3))
-        self.put('survey_of_queries', [len(coords)], why, got, f' of the first {len(coords)} numbers with the rest')
+        got = ([], []) if why else CellCase(oracle, name, cell).surveyed(in_parts(asked, 3))
+        self.put('survey_of_queries', [len(coords)], why, *got, f' of the first {len(coords)} numbers with the rest')
 
 
 # The rows of document 01's 'Worked by hand' on cells. The Rust's answer must be the paper's.
@@ -157,11 +165,11 @@ def worked(oracle):
             ('three_corners', cell_of(CUBE, [[4, 6, 1]]), 2, [4, 6, 1])):
         c = case(name, cell, f'{len(said) // 3} triangles')
         c.triangles(0, room)
-        c.said(0, [len(said) // 3], said + [MARK] * (3 * room - len(said)))
+        c.said(0, counts=[len(said) // 3], triangles=said + [MARK] * (3 * room - len(said)))
     for name, p, said in (('cube_x_0', (0.0, 0.5, 0.5), 1), ('cube_x_1', (1.0, 0.5, 0.5), 0), ('cube_y_1', (0.5, 1.0, 0.5), 0)):
         c = case(name, cube, 'contained' if said else 'not contained')
         c.contains(p)
-        c.said(0, [said])
+        c.said(0, counts=[said])
     reaching = [cell_of([(top if x else x, y, z) for x, y, z in CUBE], HEX8) for top in (LIMIT, OVER, -LIMIT, -OVER)]
     for name, cell, why in (
             ('vertices_256', cell_of(MANY[:256], TETRA), 0), ('vertices_257', cell_of(MANY, TETRA), 1),
@@ -180,7 +188,7 @@ def worked(oracle):
     for name, cell, is_closed, volume in (('report_line', cube, 1, 0x3FF0000000000000), ('report_line_not_closed', stored_otherwise, 0, 0x3FE5555555555555)):
         c = case(name, cell, "as document 01's cell report prints it")
         c.survey((0.5, 0.5, 0.5))
-        c.said(0, [12, is_closed, 0, volume, 1])
+        c.said(0, numbers=[volume], counts=[12, is_closed, 0, 1])
     return out
 
 
@@ -281,7 +289,7 @@ def limits(oracle):
     out = []
     for name, cell, remark in rows:
         c = CellCase(oracle, name, cell, remark)
-        for entry in ('volume', 'centroid', 'geometric_centroid', 'bounds', 'scale'):
+        for entry in MEASURES:
             c.measure(entry)
         c.is_closed()
         c.contains((0.5, 0.5, 0.5))
@@ -326,5 +334,19 @@ def shaped(oracle, rng):
         c = CellCase(oracle, name, cell)
         c.shape_and_planes()
         c.plane(len(cell[2]))
+        out.append(c)
+    return out
+
+
+def short_lists(oracle):
+    """A list too short for the answer is 6, after every other refusal, and then every list stays as it was."""
+    coords, corners, ends = cell_of(CUBE, HEX8)
+    out = []
+    for name, cell in (('short_lists', (coords, corners, ends)), ('short_lists_size', (coords[:-1], corners, ends)),
+                       ('short_lists_number', ([math.nan, *coords[1:]], corners, ends)), ('short_lists_ends', (coords, corners, ends[:-1])),
+                       ('short_lists_index', (coords, [8, *corners[1:]], ends)), ('short_lists_of_none', (coords, corners, [0, *ends])),
+                       ('short_lists_backward', cell_of(CUBE, [*HEX8[:5], HEX8[5][::-1]])), ('short_lists_open', cell_of(CUBE, HEX8[:5]))):
+        c = CellCase(oracle, name, cell)
+        c.all_in_short_lists((0.5, 0.5, 0.5))
         out.append(c)
     return out

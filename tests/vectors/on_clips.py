@@ -14,14 +14,15 @@ def room_for(held, size):
 
 
 class ClipCase(Case):
-    def put_work(self, entry, arguments, lengths, why, numbers, shown, outline=(), second=0):
+    def put_work(self, entry, arguments, lengths, why, shown, values=(), counts=(), outline=(), second=0):
         """An answer, and both lists: as they were on 1 to 5, else +0 save the outline."""
+        why = self.refused(entry, why)
         lists = [[0 if why in (0, 6) else FILLER] * n for n in lengths]
         if not why and outline:
-            values = [bits(x) for p in outline for x in p]
-            lists[second][:len(values)] = values
-        arguments = [*arguments, *[0] * (3 - len(arguments)), *lengths]
-        self.put(entry, arguments, why, numbers, f'{shown}, work lists of {lengths[0]} and {lengths[1]}', lists)
+            stored = [bits(x) for p in outline for x in p]
+            lists[second][:len(stored)] = stored
+        shown = f'{shown}, work lists of {lengths[0]} and {lengths[1]}'
+        self.put(entry, arguments, why, values, counts, shown, dict(zip(('first', 'second'), lists)))
 
 
 class FaceCase(ClipCase):
@@ -38,8 +39,8 @@ class FaceCase(ClipCase):
         outline, second, most = ([], 0, 0) if why else self.told_again(face, eps)
         lengths = lengths or room_for(most + room, 3)
         why = why or (6 if most > min(lengths) // 3 else 0)
-        numbers = [len(outline), second if outline else 0]
-        self.put_work('clip_face', [len(self.sound[0]), face, bits(eps)], lengths, why, numbers, f' face {face}, eps {eps!r}', outline, second)
+        counts = [len(outline), second if outline else 0]
+        self.put_work('clip_face', [len(self.sound[0]), face, bits(eps)], lengths, why, f' face {face}, eps {eps!r}', (), counts, outline, second)
 
     def told_again(self, face, eps):
         vertices = in_parts(self.sound[0], 3)
@@ -59,10 +60,10 @@ class OutlineCase(ClipCase):
         outline, second, most = ([], 0, 0) if why else clipping.clip_convex(self.oracle, in_parts(self.subject, 2), in_parts(self.clip, 2))
         lengths = lengths or room_for(most + room, 2)
         why = why or (6 if most > min(lengths) // 2 else 0)
-        numbers = [len(outline), second if outline else 0]
-        self.put_work('clip_convex', [len(self.subject)], lengths, why, numbers, '', outline, second)
+        counts = [len(outline), second if outline else 0]
+        self.put_work('clip_convex', [len(self.subject)], lengths, why, '', (), counts, outline, second)
         area = [] if why else self.oracle.patterns('convex_intersection_area', f'{points(self.subject, 2)} {points(self.clip, 2)}')
-        self.put_work('convex_intersection_area', [len(self.subject)], lengths, why, area, '')
+        self.put_work('convex_intersection_area', [len(self.subject)], lengths, why, '', area)
 
 
 class PairCase(ClipCase):
@@ -80,7 +81,7 @@ class PairCase(ClipCase):
         why = why or (6 if most > min(lengths) // 3 else 0)
         sizes = [len(part) for part in self.first]
         shown = ' of the first {} numbers, {} corners, {} ends with the rest'.format(*sizes)
-        self.put_work('convex_intersection_volume', sizes, lengths, why, [bits(volume)], shown)
+        self.put_work('convex_intersection_volume', sizes, lengths, why, shown, [bits(volume)])
 
 
 def made(out, case):
@@ -103,18 +104,18 @@ def worked(oracle):
     out = []
     c = made(out, FaceCase(oracle, 'square_by_x_1', SQUARE, X_TO_1, '(0,0), (1,0), (1,2), (0,2)'))
     c.clip(0, lengths=(12, 12))
-    c.said(0, [4, 1], [0] * 12 + [bits(x) for x in (0.0, 0.0, 0.0, 1.0, 0.0, 0.0, 1.0, 2.0, 0.0, 0.0, 2.0, 0.0)])
+    c.said(0, counts=[4, 1], first=[0] * 12, second=[bits(x) for x in (0.0, 0.0, 0.0, 1.0, 0.0, 0.0, 1.0, 2.0, 0.0, 0.0, 2.0, 0.0)])
     c = made(out, FaceCase(oracle, 'cut_off_its_segment', cell_of([(0.75, 0, 0), (1.25, 4, 0), (0, 0, 8)], [[0, 1, 2]]), [1.0, 0.0, 0.0, 0.0]))
     c.clip(0, 1.0, room=0)
     for name, clip, area in (('squares_overlap', square(1), 1.0), ('no_clip_list', [], 4.0)):
         c = made(out, OutlineCase(oracle, name, square(0), clip, f'area {area:g}'))
         c.ask()
-        if c.questions[1][8] != bits(area):
+        if c.questions[1][1]['numbers'][0] != bits(area):
             raise SystemExit(f'{name} is not as document 01 has it')
     for step in ((1, 0, 0), (0, -1, 0), (0, 0, 1)):
         c = made(out, PairCase(oracle, 'cubes_that_share_a_face_' + 'xyz'[[bool(s) for s in step].index(True)], CUBE_CELL, cell_of(shifted(CUBE, step), HEX8), 'overlap 0'))
         c.overlap(room=1)
-        c.said(0, [0])
+        c.said(0, numbers=[0])
     return out
 
 
@@ -264,4 +265,24 @@ def pairs(oracle, rng):
     for k in range(8):
         sound, broken = cell_of(*turned_box(rng)), damage(rng, cell_of(*turned_box(rng)))
         made(out, PairCase(oracle, f'pair_damaged_{k + 1}', *((sound, broken) if k % 2 else (broken, sound)))).overlap()
+    return out
+
+
+def short_lists(oracle):
+    """Lists too short to say what is left, or for its measure: 6, and then both work lists are +0 and nothing is shown."""
+    out = []
+    for name, planes, face in (('short_shown', X_TO_1, 0), ('short_shown_nothing_left', [1.0, 0.0, 0.0, -1.0], 0), ('short_shown_face_number', X_TO_1, 1)):
+        c = made(out, FaceCase(oracle, name, SQUARE, planes))
+        for lengths in ((12, 13), (9, 12)):
+            c.in_short_lists('clip_face', lambda lengths=lengths: c.clip(face, lengths=lengths))
+    for name, subject in (('short_area', square(0)), ('short_area_number', [math.nan, *square(0)[1:]])):
+        c = made(out, OutlineCase(oracle, name, subject, square(1)))
+        for short in ((1, 1), (2, 2), (2, 3)):
+            c.short = short
+            for lengths in ((16, 17), (4, 9)):
+                c.ask(lengths)
+    for name, other in (('short_overlap', CUBE_CELL), ('short_overlap_number', ([math.inf, *CUBE_CELL[0][1:]], *CUBE_CELL[1:]))):
+        c = made(out, PairCase(oracle, name, CUBE_CELL, other))
+        for lengths in ((12, 13), (9, 12)):
+            c.in_short_lists('convex_intersection_volume', lambda lengths=lengths: c.overlap(lengths))
     return out

@@ -23,21 +23,34 @@ class LeafCase(Case):
     def leaf(self, entry, at=0):
         """A leaf whose arguments start at a place of the line's numbers."""
         words = hexes(self.cell[0][at:at + TAKES[entry]])
+        values, code = [], 0
         if entry == 'dominant_axis':
-            got = [int(self.oracle.ask(entry, words)[0])]
+            code = int(self.oracle.ask(entry, words)[0])
         elif entry.startswith('plane'):
-            got = [self.oracle.yes(entry, words, 'ruled')]
+            code = self.oracle.yes(entry, words, 'ruled')
+        elif entry == 'cross2':
+            (code,) = self.oracle.patterns(entry, words)
         else:
-            got = self.oracle.patterns(entry, words)
-        self.put(entry, [at], 0, got, f' from place {at}')
+            values = self.oracle.patterns(entry, words)
+        self.put(entry, [at], 0, values, shown=f' from place {at}', code=code)
 
     def project(self, axis, at=0):
         got = self.oracle.patterns('project2', f'{hexes(self.cell[0][at:at + 3])} {axis}')
-        self.put('project2', [at, axis], 0, got, f' axis {axis} from place {at}')
+        self.put('project2', [at, axis], 0, got, shown=f' axis {axis} from place {at}')
 
     def root(self, x):
         """The correctly rounded root of IEEE 754, which decides here."""
-        self.put('root', [bits(x)], 0, [bits(math.nan if x < 0.0 else math.sqrt(x))], f' {bits(x):016X}')
+        self.put('root', [bits(x)], 0, shown=f' {bits(x):016X}', code=bits(math.nan if x < 0.0 else math.sqrt(x)))
+
+    def small(self, x, ys):
+        """The leaves on one number and on two, as document 01 has them: of two that tie the first, and the other beside a NaN."""
+        self.put('magnitude', [bits(x)], 0, shown=f' {x!r}', code=bits(abs(x)))
+        for entry in ('pattern', 'of_pattern'):
+            self.put(entry, [bits(x)], 0, shown=f' {x!r}', code=bits(x))
+        for y in ys:
+            least, largest = (y if x != x else x if y != y else y if beyond else x for beyond in (y < x, x < y))
+            for entry, r in (('least', least), ('largest', largest), ('length', math.sqrt(x * x + y * y))):
+                self.put(entry, [bits(x), bits(y)], 0, shown=f' {x!r} {y!r}', code=bits(r))
 
     def leaves(self):
         """Every leaf at every place from which there are numbers enough."""
@@ -48,22 +61,33 @@ class LeafCase(Case):
         for axis in range(4):
             self.project(axis)
 
+    def shape_refusal(self, kind):
+        """Another length than that of the shape's corners is refused 1."""
+        return 0 if len(self.cell[0]) == 3 * len(SHAPES[kind]) else 1
+
+    def shape_volume(self, kind):
+        why = self.shape_refusal(kind)
+        self.put(f'{kind}_volume', [], why, [] if why else self.oracle.patterns(f'{kind}_volume', hexes(self.cell[0])))
+
+    def shape_contains(self, kind, p):
+        why = self.shape_refusal(kind)
+        got = [] if why else [self.oracle.yes(f'{kind}_contains', f'{hexes(p)} {hexes(self.cell[0])}')]
+        self.put(f'{kind}_contains', [bits(x) for x in p], why, counts=got, shown=f' {p}')
+
     def shape(self, kind, ps):
-        corners = hexes(self.cell[0])
-        self.put(f'{kind}_volume', [], 0, self.oracle.patterns(f'{kind}_volume', corners))
+        self.shape_volume(kind)
         for p in ps:
-            got = self.oracle.yes(f'{kind}_contains', f'{hexes(p)} {corners}')
-            self.put(f'{kind}_contains', [bits(x) for x in p], 0, [got], f' {p}')
+            self.shape_contains(kind, p)
 
 
 def worked(oracle):
     """The root, and the crossing that lies off its segment: t = -1.5."""
     least = LeafCase(oracle, 'root_least', [], 'the root of the least positive f64 is 2^-537')
     least.root(number(1))
-    least.said(0, [bits(2.0 ** -537)])
+    least.said(bits(2.0 ** -537))
     c = LeafCase(oracle, 'crossing_off_its_segment', [0.75, 0.0, 0.0, 1.25, 4.0, 0.0, 0.75, 1.25], 'the point (0, -6, 0)')
     c.leaf('segment_plane_intersection')
-    c.said(0, [bits(0.0), bits(-6.0), bits(0.0)])
+    c.said(0, numbers=[bits(0.0), bits(-6.0), bits(0.0)])
     return [least, c]
 
 
@@ -119,4 +143,28 @@ def shapes(oracle, rng):
             c = LeafCase(oracle, f'{kind}_{k + 1}', flat(corners))
             c.shape(kind, [*queries(rng, corners), (0.0, 0.25, 0.25), (rng.choice(STRANGE), 0.5, 0.25)])
             out.append(c)
+    return out
+
+
+def small(oracle):
+    c = LeafCase(oracle, 'one_or_two_numbers', [])
+    for x in STRANGE:
+        c.small(x, STRANGE)
+    return [c]
+
+
+def short_lists(oracle):
+    """Lists too short for a point or a number, and shapes of another count of corners."""
+    c = LeafCase(oracle, 'short_lists_of_leaves', [0.75, 0.0, 0.0, 1.25, 4.0, 0.0, 0.75, 1.25])
+    c.in_short_lists('project2', lambda: c.project(1))
+    for entry in ('segment_intersection', 'segment_plane_intersection'):
+        c.in_short_lists(entry, lambda entry=entry: c.leaf(entry))
+    out = [c]
+    for name, corners in (('tet', SHAPES['tet']), ('wedge', SHAPES['wedge']), ('hex', SHAPES['hex']), ('no', [])):
+        c = LeafCase(oracle, f'short_lists_of_{name}_corners', flat(corners))
+        for kind in SHAPES:
+            c.shape(kind, [(0.25, 0.25, 0.25)])
+            c.in_short_lists(f'{kind}_volume', lambda kind=kind: c.shape_volume(kind))
+            c.in_short_lists(f'{kind}_contains', lambda kind=kind: c.shape_contains(kind, (0.25, 0.25, 0.25)))
+        out.append(c)
     return out

@@ -1,19 +1,11 @@
 // The entries on a cell.
 ghost use mathlib.Core.Path.{_≡_};
 ghost use mathlib.Core.List.{[], _∷_};
-ghost use lib.Dec.{ltb};
-ghost use lib.ListN.{length};
-ghost use Rattle.places.specs.Loops.{pick};
-ghost use Rattle.flat.specs.Points.{verticesOf, centroidOf, boundsOf, scaleOf};
-ghost use Rattle.exact.specs.Sides.{closedOf};
-ghost use Rattle.cell.specs.Faces.{facesOf};
-ghost use Rattle.cell.specs.Refusals.{refusalOf};
-ghost use Rattle.volume.specs.Volume.{volumeOf, geometricCentroidOf};
-ghost use Rattle.inside.specs.Inside.{containsOf, phedContainsOf};
-ghost use Rattle.geometry.specs.Answers.{numberOr, truthOr, countOr, placeOr, extentOr, frontOr, faceTriangles};
-ghost use Rattle.refusals.specs.Refusals.{cellRefusal, trianglesRefusal, phedRefusal};
+ghost use Rattle.places.specs.Lent.{old, new};
+ghost use Rattle.geometry.specs.Cells.{volumeAnswer, centroidAnswer, geometricCentroidAnswer, boundsAnswer, scaleAnswer};
+ghost use Rattle.geometry.specs.Cells.{closedAnswer, containsAnswer, pointInPhedAnswer, trianglesAnswer};
 ghost use Rattle.geometry.specs.Survey.{surveyAnswer};
-ghost use Rattle.values.specs.Answers.{numberCode, numberInto, truthCode, truthInto, countCode, countInto, placeCode, placeInto, extentCode, extentInto, surveyedCode, surveyedCounts, surveyedVolume, roomBeside};
+ghost use Rattle.geometry.specs.Listed.{told, written, ofNumber, ofTruth, ofCount, ofPlace, ofExtent, ofSurveyed, trianglesTold};
 
 #[no_mangle]
 pub extern "C" fn wegrusamt_volume(
@@ -22,10 +14,9 @@ pub extern "C" fn wegrusamt_volume(
     ends: &[u32],
     out: &mut [f64],
 ) -> u8
-    ensures code { λ r. ⌜ r ≡ numberCode (numberOr (cellRefusal (now (coords .entry)) (now (corners .entry)) (now (ends .entry))) (volumeOf (verticesOf (now (coords .entry))) (facesOf (now (corners .entry)) (now (ends .entry))))) (length (now (out .entry))) ⌝ }
-    ensures written { λ _. ⌜ now (out .exit) ≡ numberInto (numberOr (cellRefusal (now (coords .entry)) (now (corners .entry)) (now (ends .entry))) (volumeOf (verticesOf (now (coords .entry))) (facesOf (now (corners .entry)) (now (ends .entry))))) (now (out .entry)) ⌝ }
+    ensures { λ r. ⌜ told r (new out) [] ≡ written (ofNumber (volumeAnswer (old coords) (old corners) (old ends))) (old out) [] ⌝ }
 {
-    values::put_number(geometry::volume(coords, corners, ends), out)
+    answer_lists::put_number(geometry::volume(coords, corners, ends), out)
 }
 
 #[no_mangle]
@@ -35,10 +26,9 @@ pub extern "C" fn wegrusamt_centroid(
     ends: &[u32],
     out: &mut [f64],
 ) -> u8
-    ensures code { λ r. ⌜ r ≡ placeCode (placeOr (cellRefusal (now (coords .entry)) (now (corners .entry)) (now (ends .entry))) (centroidOf 3 (verticesOf (now (coords .entry))))) (length (now (out .entry))) ⌝ }
-    ensures written { λ _. ⌜ now (out .exit) ≡ placeInto (placeOr (cellRefusal (now (coords .entry)) (now (corners .entry)) (now (ends .entry))) (centroidOf 3 (verticesOf (now (coords .entry))))) (now (out .entry)) ⌝ }
+    ensures { λ r. ⌜ told r (new out) [] ≡ written (ofPlace (centroidAnswer (old coords) (old corners) (old ends))) (old out) [] ⌝ }
 {
-    values::put_place(geometry::centroid(coords, corners, ends), out)
+    answer_lists::put_place(geometry::centroid(coords, corners, ends), out)
 }
 
 #[no_mangle]
@@ -48,10 +38,10 @@ pub extern "C" fn wegrusamt_geometric_centroid(
     ends: &[u32],
     out: &mut [f64],
 ) -> u8
-    ensures code { λ r. ⌜ r ≡ placeCode (placeOr (cellRefusal (now (coords .entry)) (now (corners .entry)) (now (ends .entry))) (geometricCentroidOf (verticesOf (now (coords .entry))) (facesOf (now (corners .entry)) (now (ends .entry))))) (length (now (out .entry))) ⌝ }
-    ensures written { λ _. ⌜ now (out .exit) ≡ placeInto (placeOr (cellRefusal (now (coords .entry)) (now (corners .entry)) (now (ends .entry))) (geometricCentroidOf (verticesOf (now (coords .entry))) (facesOf (now (corners .entry)) (now (ends .entry))))) (now (out .entry)) ⌝ }
+    ensures { λ r. ⌜ told r (new out) [] ≡ written (ofPlace (geometricCentroidAnswer (old coords) (old corners) (old ends)))
+        (old out) [] ⌝ }
 {
-    values::put_place(geometry::geometric_centroid(coords, corners, ends), out)
+    answer_lists::put_place(geometry::geometric_centroid(coords, corners, ends), out)
 }
 
 // Six numbers: the low corner, then the high one.
@@ -62,10 +52,9 @@ pub extern "C" fn wegrusamt_bounds(
     ends: &[u32],
     out: &mut [f64],
 ) -> u8
-    ensures code { λ r. ⌜ r ≡ extentCode (extentOr (cellRefusal (now (coords .entry)) (now (corners .entry)) (now (ends .entry))) (boundsOf 3 (verticesOf (now (coords .entry))))) (length (now (out .entry))) ⌝ }
-    ensures written { λ _. ⌜ now (out .exit) ≡ extentInto (extentOr (cellRefusal (now (coords .entry)) (now (corners .entry)) (now (ends .entry))) (boundsOf 3 (verticesOf (now (coords .entry))))) (now (out .entry)) ⌝ }
+    ensures { λ r. ⌜ told r (new out) [] ≡ written (ofExtent (boundsAnswer (old coords) (old corners) (old ends))) (old out) [] ⌝ }
 {
-    values::put_extent(geometry::bounds(coords, corners, ends), out)
+    answer_lists::put_extent(geometry::bounds(coords, corners, ends), out)
 }
 
 #[no_mangle]
@@ -75,10 +64,9 @@ pub extern "C" fn wegrusamt_scale(
     ends: &[u32],
     out: &mut [f64],
 ) -> u8
-    ensures code { λ r. ⌜ r ≡ numberCode (numberOr (cellRefusal (now (coords .entry)) (now (corners .entry)) (now (ends .entry))) (scaleOf (boundsOf 3 (verticesOf (now (coords .entry)))))) (length (now (out .entry))) ⌝ }
-    ensures written { λ _. ⌜ now (out .exit) ≡ numberInto (numberOr (cellRefusal (now (coords .entry)) (now (corners .entry)) (now (ends .entry))) (scaleOf (boundsOf 3 (verticesOf (now (coords .entry)))))) (now (out .entry)) ⌝ }
+    ensures { λ r. ⌜ told r (new out) [] ≡ written (ofNumber (scaleAnswer (old coords) (old corners) (old ends))) (old out) [] ⌝ }
 {
-    values::put_number(geometry::scale(coords, corners, ends), out)
+    answer_lists::put_number(geometry::scale(coords, corners, ends), out)
 }
 
 // 1 for yes and 0 for no, here and below.
@@ -89,10 +77,9 @@ pub extern "C" fn wegrusamt_closed(
     ends: &[u32],
     out: &mut [usize],
 ) -> u8
-    ensures code { λ r. ⌜ r ≡ truthCode (truthOr (cellRefusal (now (coords .entry)) (now (corners .entry)) (now (ends .entry))) (closedOf (facesOf (now (corners .entry)) (now (ends .entry))))) (length (now (out .entry))) ⌝ }
-    ensures written { λ _. ⌜ now (out .exit) ≡ truthInto (truthOr (cellRefusal (now (coords .entry)) (now (corners .entry)) (now (ends .entry))) (closedOf (facesOf (now (corners .entry)) (now (ends .entry))))) (now (out .entry)) ⌝ }
+    ensures { λ r. ⌜ told r [] (new out) ≡ written (ofTruth (closedAnswer (old coords) (old corners) (old ends))) [] (old out) ⌝ }
 {
-    values::put_truth(geometry::closed(coords, corners, ends), out)
+    answer_lists::put_truth(geometry::closed(coords, corners, ends), out)
 }
 
 #[no_mangle]
@@ -105,10 +92,10 @@ pub extern "C" fn wegrusamt_contains(
     z: f64,
     out: &mut [usize],
 ) -> u8
-    ensures code { λ r. ⌜ r ≡ truthCode (truthOr (refusalOf (now (coords .entry)) (now (corners .entry)) (now (ends .entry)) (x ∷ y ∷ z ∷ []) []) (containsOf (verticesOf (now (coords .entry))) (x ∷ y ∷ z ∷ []) (facesOf (now (corners .entry)) (now (ends .entry))))) (length (now (out .entry))) ⌝ }
-    ensures written { λ _. ⌜ now (out .exit) ≡ truthInto (truthOr (refusalOf (now (coords .entry)) (now (corners .entry)) (now (ends .entry)) (x ∷ y ∷ z ∷ []) []) (containsOf (verticesOf (now (coords .entry))) (x ∷ y ∷ z ∷ []) (facesOf (now (corners .entry)) (now (ends .entry))))) (now (out .entry)) ⌝ }
+    ensures { λ r. ⌜ told r [] (new out) ≡ written (ofTruth (containsAnswer (old coords) (old corners) (old ends) (x ∷ y ∷ z ∷ []))) []
+        (old out) ⌝ }
 {
-    values::put_truth(geometry::contains(coords, corners, ends, [x, y, z]), out)
+    answer_lists::put_truth(geometry::contains(coords, corners, ends, [x, y, z]), out)
 }
 
 #[no_mangle]
@@ -120,15 +107,14 @@ pub extern "C" fn wegrusamt_point_in_phed(
     z: f64,
     out: &mut [usize],
 ) -> u8
-    ensures code { λ r. ⌜ r ≡ truthCode (truthOr (phedRefusal (now (coords .entry)) (now (cs .entry)) (x ∷ y ∷ z ∷ [])) (phedContainsOf (verticesOf (now (coords .entry))) (x ∷ y ∷ z ∷ []) (now (cs .entry)))) (length (now (out .entry))) ⌝ }
-    ensures written { λ _. ⌜ now (out .exit) ≡ truthInto (truthOr (phedRefusal (now (coords .entry)) (now (cs .entry)) (x ∷ y ∷ z ∷ [])) (phedContainsOf (verticesOf (now (coords .entry))) (x ∷ y ∷ z ∷ []) (now (cs .entry)))) (now (out .entry)) ⌝ }
+    ensures { λ r. ⌜ told r [] (new out) ≡ written (ofTruth (pointInPhedAnswer (old coords) (old cs) (x ∷ y ∷ z ∷ []))) [] (old out) ⌝ }
 {
-    values::put_truth(geometry::point_in_phed(coords, cs, [x, y, z]), out)
+    answer_lists::put_truth(geometry::point_in_phed(coords, cs, [x, y, z]), out)
 }
 
 // What the triangles of a face answer where their count has no place.
 fn uncounted(coords: &[f64], corners: &[u32], ends: &[u32], face: u32) -> u8
-    ensures { λ r. ⌜ r ≡ countCode (countOr (trianglesRefusal (now (coords .entry)) (now (corners .entry)) (now (ends .entry)) face 0) (length (faceTriangles (now (coords .entry)) (now (corners .entry)) (now (ends .entry)) face))) 0 ⌝ }
+    ensures { λ r. ⌜ told r [] [] ≡ written (ofCount (trianglesAnswer (old coords) (old corners) (old ends) face [] .0)) [] [] ⌝ }
 {
     let mut none = [[0; 3]; 1];
     match geometry::triangles(coords, corners, ends, face, &mut none[..0]) {
@@ -147,14 +133,12 @@ pub extern "C" fn wegrusamt_triangles(
     out: &mut [[u32; 3]],
     count: &mut [usize],
 ) -> u8
-    ensures code { λ r. ⌜ r ≡ countCode (countOr (trianglesRefusal (now (coords .entry)) (now (corners .entry)) (now (ends .entry)) face (roomBeside (now (count .entry)) (length (now (out .entry))))) (length (faceTriangles (now (coords .entry)) (now (corners .entry)) (now (ends .entry)) face))) (length (now (count .entry))) ⌝ }
-    ensures counted { λ _. ⌜ now (count .exit) ≡ countInto (countOr (trianglesRefusal (now (coords .entry)) (now (corners .entry)) (now (ends .entry)) face (roomBeside (now (count .entry)) (length (now (out .entry))))) (length (faceTriangles (now (coords .entry)) (now (corners .entry)) (now (ends .entry)) face))) (now (count .entry)) ⌝ }
-    ensures written { λ _. ⌜ now (out .exit) ≡ pick (ltb (length (now (count .entry))) 1) (now (out .entry)) (frontOr (trianglesRefusal (now (coords .entry)) (now (corners .entry)) (now (ends .entry)) face (roomBeside (now (count .entry)) (length (now (out .entry))))) (faceTriangles (now (coords .entry)) (now (corners .entry)) (now (ends .entry)) face) (now (out .entry))) ⌝ }
+    ensures { λ r. ⌜ (r, new out, new count) ≡ trianglesTold (old coords) (old corners) (old ends) face (old out) (old count) ⌝ }
 {
     if count.len() < 1 {
         return uncounted(coords, corners, ends, face);
     }
-    values::put_count(geometry::triangles(coords, corners, ends, face, out), count)
+    answer_lists::put_count(geometry::triangles(coords, corners, ends, face, out), count)
 }
 
 // Four counts (triangles, closed, short, contained) in one list, the volume in another.
@@ -167,12 +151,12 @@ pub extern "C" fn wegrusamt_survey(
     counts: &mut [usize],
     volume: &mut [f64],
 ) -> u8
-    ensures code { λ r. ⌜ r ≡ surveyedCode (surveyAnswer (now (coords .entry)) (now (corners .entry)) (now (ends .entry)) (now (queries .entry))) (length (now (counts .entry))) (length (now (volume .entry))) ⌝ }
-    ensures counted { λ _. ⌜ now (counts .exit) ≡ surveyedCounts (surveyAnswer (now (coords .entry)) (now (corners .entry)) (now (ends .entry)) (now (queries .entry))) (length (now (volume .entry))) (now (counts .entry)) ⌝ }
-    ensures measured { λ _. ⌜ now (volume .exit) ≡ surveyedVolume (surveyAnswer (now (coords .entry)) (now (corners .entry)) (now (ends .entry)) (now (queries .entry))) (length (now (counts .entry))) (now (volume .entry)) ⌝ }
+    ensures { λ r. ⌜ told r (new volume) (new counts) ≡ written (ofSurveyed (surveyAnswer (old coords) (old corners) (old ends)
+        (old queries)))
+        (old volume) (old counts) ⌝ }
 {
-    values::put_surveyed(
-        geometry::survey_cell(coords, corners, ends, queries),
+    answer_lists::put_surveyed(
+        geometry::survey(coords, corners, ends, queries),
         counts,
         volume,
     )

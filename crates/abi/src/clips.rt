@@ -1,10 +1,11 @@
 // Clipping and the overlaps, with two work lists each.
-ghost use Rattle.planar.specs.Planar.{areaAnswer};
-ghost use Rattle.refusals.specs.Refusals.{clipRefusal, planarRefusal, overlapRefusal};
-ghost use Rattle.geometry.specs.Clipping.{faceLeft, outlineLeft, cellsOverlap, measuredNumber};
-ghost use Rattle.values.specs.Shown.{ShownAs, MeasuredInto};
+ghost use mathlib.Core.Path.{_≡_};
+ghost use Rattle.places.specs.Lent.{old, new};
+ghost use Rattle.geometry.specs.Clipping.{clipFaceAnswer, clipConvexAnswer, overlapAreaAnswer, overlapAnswer};
+ghost use Rattle.geometry.specs.Listed.{clippingTold, measureTold};
 
-// What is shown: how many points are left, 0 for nothing, and 1 where they stand in the second work list. Without room for both numbers nothing is shown.
+// What is shown: how many points are left, 0 for nothing, and 1 where they stand in the second work list. Without room for both numbers
+// nothing is shown.
 #[no_mangle]
 pub extern "C" fn wegrusamt_clip_face(
     coords: &[f64],
@@ -17,10 +18,11 @@ pub extern "C" fn wegrusamt_clip_face(
     second: &mut [f64],
     shown: &mut [usize],
 ) -> u8
-    ensures { λ r. ⌜ ShownAs (clipRefusal (now (coords .entry)) (now (corners .entry)) (now (ends .entry)) face (now (planes .entry)) (now (first .entry)) (now (second .entry))) (faceLeft (now (coords .entry)) (now (corners .entry)) (now (ends .entry)) face (now (planes .entry)) eps (now (first .entry)) (now (second .entry))) r (now (shown .entry)) (now (first .entry)) (now (second .entry)) (now (shown .exit)) (now (first .exit)) (now (second .exit)) ⌝ }
+    ensures { λ r. ⌜ (r, new shown, new first, new second) ≡ clippingTold (clipFaceAnswer (old coords) (old corners) (old ends)
+        face (old planes) eps (old first) (old second)) (old shown) ⌝ }
 {
     let a = geometry::clipping::clip_face(coords, corners, ends, face, planes, eps, first, second);
-    values::shown::put_shown(a, first, second, shown)
+    answer_lists::shown::put_shown(a, first, second, shown)
 }
 
 #[no_mangle]
@@ -31,10 +33,11 @@ pub extern "C" fn wegrusamt_clip_convex(
     second: &mut [f64],
     shown: &mut [usize],
 ) -> u8
-    ensures { λ r. ⌜ ShownAs (planarRefusal (now (subject .entry)) (now (clip .entry)) (now (first .entry)) (now (second .entry))) (outlineLeft (now (subject .entry)) (now (clip .entry)) (now (first .entry)) (now (second .entry))) r (now (shown .entry)) (now (first .entry)) (now (second .entry)) (now (shown .exit)) (now (first .exit)) (now (second .exit)) ⌝ }
+    ensures { λ r. ⌜ (r, new shown, new first, new second) ≡ clippingTold (clipConvexAnswer (old subject) (old clip)
+        (old first) (old second)) (old shown) ⌝ }
 {
     let a = geometry::clipping::clip_convex(subject, clip, first, second);
-    values::shown::put_shown(a, first, second, shown)
+    answer_lists::shown::put_shown(a, first, second, shown)
 }
 
 #[no_mangle]
@@ -45,10 +48,11 @@ pub extern "C" fn wegrusamt_convex_intersection_area(
     second: &mut [f64],
     out: &mut [f64],
 ) -> u8
-    ensures { λ r. ⌜ MeasuredInto (planarRefusal (now (subject .entry)) (now (clip .entry)) (now (first .entry)) (now (second .entry))) (measuredNumber (areaAnswer (outlineLeft (now (subject .entry)) (now (clip .entry)) (now (first .entry)) (now (second .entry))))) r (now (out .entry)) (now (first .entry)) (now (second .entry)) (now (out .exit)) (now (first .exit)) (now (second .exit)) ⌝ }
+    ensures { λ r. ⌜ (r, new out, new first, new second) ≡ measureTold (overlapAreaAnswer (old subject) (old clip)
+        (old first) (old second)) (old out) ⌝ }
 {
     let a = geometry::clipping::convex_intersection_area(subject, clip, first, second);
-    values::put_number(a, out)
+    answer_lists::put_number(a, out)
 }
 
 #[no_mangle]
@@ -63,7 +67,8 @@ pub extern "C" fn wegrusamt_convex_intersection_volume(
     second: &mut [f64],
     out: &mut [f64],
 ) -> u8
-    ensures { λ r. ⌜ MeasuredInto (overlapRefusal (now (coords .entry)) (now (corners .entry)) (now (ends .entry)) (now (coords2 .entry)) (now (corners2 .entry)) (now (ends2 .entry)) (now (first .entry)) (now (second .entry))) (measuredNumber (cellsOverlap (now (coords .entry)) (now (corners .entry)) (now (ends .entry)) (now (coords2 .entry)) (now (corners2 .entry)) (now (ends2 .entry)) (now (first .entry)) (now (second .entry)))) r (now (out .entry)) (now (first .entry)) (now (second .entry)) (now (out .exit)) (now (first .exit)) (now (second .exit)) ⌝ }
+    ensures { λ r. ⌜ (r, new out, new first, new second) ≡ measureTold (overlapAnswer (old coords) (old corners) (old ends)
+        (old coords2) (old corners2) (old ends2) (old first) (old second)) (old out) ⌝ }
 {
     let a = geometry::clipping::convex_intersection_volume(
         coords,
@@ -75,5 +80,5 @@ pub extern "C" fn wegrusamt_convex_intersection_volume(
         first,
         second,
     );
-    values::put_number(a, out)
+    answer_lists::put_number(a, out)
 }

@@ -1,63 +1,60 @@
 // The leaves on f64 under C names: any bits, and nothing is refused but a list too short for a point (6).
 ghost use mathlib.Core.Path.{_≡_};
 ghost use mathlib.Core.List.{[], _∷_};
-ghost use lib.ListN.{length};
-ghost use lib.Ieee.{binary64, ofBits, toBits};
-ghost use Rattle.floats.specs.Pick.{magnitudeOf, leastOf, largestOf};
-ghost use Rattle.floats.specs.Root.{rootOf};
-ghost use Rattle.floats.specs.Length.{lengthOf};
-ghost use Rattle.flat.specs.Flat.{cross2Of, axisOf, project2Of, crossingOf};
-ghost use Rattle.planes.specs.Planes.{sameSide, coplanarOpposite};
-ghost use Rattle.trim.specs.Trim.{segmentPlaneOf};
-ghost use Rattle.values.specs.Answers.{roomCode, front, one};
+ghost use lib.Ieee.{binary64};
+ghost use Rattle.places.specs.Lent.{old, new};
+ghost use Rattle.geometry.specs.Leaves.{magnitudeOf, leastOf, largestOf, rootOf, lengthOf, toBits, ofBits};
+ghost use Rattle.geometry.specs.Leaves.{cross2Of, axisOf, project2Of, crossingOf, segmentPlaneOf};
+ghost use Rattle.geometry.specs.Leaves.{planeSameSideAnswer, planeCoplanarOppositeAnswer};
+ghost use Rattle.geometry.specs.Listed.{told, written, values, one};
 
 #[no_mangle]
 pub extern "C" fn wegrusamt_magnitude(x: f64) -> f64
     ensures { λ r. ⌜ r ≡ magnitudeOf x ⌝ }
 {
-    floats::magnitude(x)
+    geometry::leaves::magnitude(x)
 }
 
 #[no_mangle]
 pub extern "C" fn wegrusamt_least(a: f64, b: f64) -> f64
     ensures { λ r. ⌜ r ≡ leastOf a b ⌝ }
 {
-    floats::least(a, b)
+    geometry::leaves::least(a, b)
 }
 
 #[no_mangle]
 pub extern "C" fn wegrusamt_largest(a: f64, b: f64) -> f64
     ensures { λ r. ⌜ r ≡ largestOf a b ⌝ }
 {
-    floats::largest(a, b)
+    geometry::leaves::largest(a, b)
 }
 
 #[no_mangle]
 pub extern "C" fn wegrusamt_root(x: f64) -> f64
     ensures { λ r. ⌜ r ≡ rootOf binary64 x ⌝ }
 {
-    floats::root(x)
+    geometry::leaves::root(x)
 }
 
 #[no_mangle]
 pub extern "C" fn wegrusamt_length(x: f64, y: f64) -> f64
     ensures { λ r. ⌜ r ≡ lengthOf x y ⌝ }
 {
-    floats::length(x, y)
+    geometry::leaves::length(x, y)
 }
 
 #[no_mangle]
 pub extern "C" fn wegrusamt_pattern(x: f64) -> u64
     ensures { λ r. ⌜ r ≡ toBits binary64 x ⌝ }
 {
-    floats::pattern(x)
+    geometry::leaves::pattern(x)
 }
 
 #[no_mangle]
 pub extern "C" fn wegrusamt_of_pattern(b: u64) -> f64
     ensures { λ r. ⌜ r ≡ ofBits binary64 b ⌝ }
 {
-    floats::of_pattern(b)
+    geometry::leaves::of_pattern(b)
 }
 
 // Points and normals come as their coordinates, and go to the front of a list.
@@ -77,10 +74,9 @@ pub extern "C" fn wegrusamt_dominant_axis(x: f64, y: f64, z: f64) -> usize
 
 #[no_mangle]
 pub extern "C" fn wegrusamt_project2(x: f64, y: f64, z: f64, axis: usize, out: &mut [f64]) -> u8
-    ensures code { λ r. ⌜ r ≡ roomCode 2 (length (now (out .entry))) ⌝ }
-    ensures written { λ _. ⌜ now (out .exit) ≡ front (project2Of (x ∷ y ∷ z ∷ []) axis) (now (out .entry)) ⌝ }
+    ensures { λ r. ⌜ told r (new out) [] ≡ written (values (project2Of (x ∷ y ∷ z ∷ []) axis) []) (old out) [] ⌝ }
 {
-    values::put_point2(geometry::leaves::project2([x, y, z], axis), out)
+    answer_lists::put(&geometry::leaves::project2([x, y, z], axis), out)
 }
 
 #[no_mangle]
@@ -95,11 +91,11 @@ pub extern "C" fn wegrusamt_segment_intersection(
     qy: f64,
     out: &mut [f64],
 ) -> u8
-    ensures code { λ r. ⌜ r ≡ roomCode 2 (length (now (out .entry))) ⌝ }
-    ensures written { λ _. ⌜ now (out .exit) ≡ front (crossingOf (ax ∷ ay ∷ []) (bx ∷ by ∷ []) (px ∷ py ∷ []) (qx ∷ qy ∷ [])) (now (out .entry)) ⌝ }
+    ensures { λ r. ⌜ told r (new out) [] ≡ written (values (crossingOf (ax ∷ ay ∷ []) (bx ∷ by ∷ []) (px ∷ py ∷ []) (qx ∷ qy ∷ [])) [])
+        (old out) [] ⌝ }
 {
-    values::put_point2(
-        geometry::leaves::segment_intersection([ax, ay], [bx, by], [px, py], [qx, qy]),
+    answer_lists::put(
+        &geometry::leaves::segment_intersection([ax, ay], [bx, by], [px, py], [qx, qy]),
         out,
     )
 }
@@ -116,11 +112,11 @@ pub extern "C" fn wegrusamt_segment_plane_intersection(
     db: f64,
     out: &mut [f64],
 ) -> u8
-    ensures code { λ r. ⌜ r ≡ roomCode 3 (length (now (out .entry))) ⌝ }
-    ensures written { λ _. ⌜ now (out .exit) ≡ front (segmentPlaneOf (ax ∷ ay ∷ az ∷ []) (bx ∷ by ∷ bz ∷ []) da db) (now (out .entry)) ⌝ }
+    ensures { λ r. ⌜ told r (new out) [] ≡ written (values (segmentPlaneOf (ax ∷ ay ∷ az ∷ []) (bx ∷ by ∷ bz ∷ []) da db) [])
+        (old out) [] ⌝ }
 {
-    values::put_point3(
-        geometry::leaves::segment_plane_intersection([ax, ay, az], [bx, by, bz], da, db),
+    answer_lists::put(
+        &geometry::leaves::segment_plane_intersection([ax, ay, az], [bx, by, bz], da, db),
         out,
     )
 }
@@ -138,17 +134,18 @@ pub extern "C" fn wegrusamt_plane_same_side(
     bd: f64,
     tol: f64,
 ) -> u8
-    ensures { λ r. ⌜ r ≡ one (sameSide (record { n = ax ∷ ay ∷ az ∷ []; d = ad }) (record { n = bx ∷ by ∷ bz ∷ []; d = bd }) tol) ⌝ }
+    ensures { λ r. ⌜ r ≡ one (planeSameSideAnswer (record { n = ax ∷ ay ∷ az ∷ []; d = ad })
+        (record { n = bx ∷ by ∷ bz ∷ []; d = bd }) tol) ⌝ }
 {
-    let a = planes::Plane {
+    let a = geometry::Plane {
         n: [ax, ay, az],
         d: ad,
     };
-    let b = planes::Plane {
+    let b = geometry::Plane {
         n: [bx, by, bz],
         d: bd,
     };
-    values::bit(geometry::leaves::plane_same_side(a, b, tol))
+    answer_lists::bit(geometry::leaves::plane_same_side(a, b, tol))
 }
 
 #[no_mangle]
@@ -163,15 +160,16 @@ pub extern "C" fn wegrusamt_plane_coplanar_opposite(
     bd: f64,
     tol: f64,
 ) -> u8
-    ensures { λ r. ⌜ r ≡ one (coplanarOpposite (record { n = ax ∷ ay ∷ az ∷ []; d = ad }) (record { n = bx ∷ by ∷ bz ∷ []; d = bd }) tol) ⌝ }
+    ensures { λ r. ⌜ r ≡ one (planeCoplanarOppositeAnswer (record { n = ax ∷ ay ∷ az ∷ []; d = ad })
+        (record { n = bx ∷ by ∷ bz ∷ []; d = bd }) tol) ⌝ }
 {
-    let a = planes::Plane {
+    let a = geometry::Plane {
         n: [ax, ay, az],
         d: ad,
     };
-    let b = planes::Plane {
+    let b = geometry::Plane {
         n: [bx, by, bz],
         d: bd,
     };
-    values::bit(geometry::leaves::plane_coplanar_opposite(a, b, tol))
+    answer_lists::bit(geometry::leaves::plane_coplanar_opposite(a, b, tol))
 }

@@ -1,66 +1,57 @@
 // The entries on lists of points: of space, stored in threes, and of the plane, in pairs.
 ghost use mathlib.Core.Path.{_≡_};
-ghost use lib.ListN.{length};
-ghost use Rattle.places.specs.Stored.{inPairs, joined};
-ghost use Rattle.flat.specs.Points.{verticesOf, centroidOf, boundsOf};
-ghost use Rattle.flat.specs.Flat.{newellOf, signedAreaOf, ccwOf};
-ghost use Rattle.geometry.specs.Answers.{numberOr, placeOr, extentOr, planePlaceOr, planeExtentOr, doneOr, listOr};
-ghost use Rattle.refusals.specs.Refusals.{listRefusal, planeRefusal};
-ghost use Rattle.values.specs.Answers.{numberCode, numberInto, placeCode, placeInto, extentCode, extentInto, planePlaceCode, planePlaceInto, planeExtentCode, planeExtentInto, doneCode};
+ghost use mathlib.Core.List.{[]};
+ghost use Rattle.places.specs.Lent.{old, new};
+ghost use Rattle.geometry.specs.Points.{newellNormalAnswer, vertexCentroidAnswer, listBoundsAnswer};
+ghost use Rattle.geometry.specs.Points.{signedArea2Answer, vertexCentroid2Answer, bounds2Answer, intoCcw2Answer};
+ghost use Rattle.geometry.specs.Listed.{told, written, ofNumber, ofPlace, ofExtent, ofPlanePlace, ofPlaneExtent, doneTold};
 
 #[no_mangle]
 pub extern "C" fn wegrusamt_newell_normal(coords: &[f64], out: &mut [f64]) -> u8
-    ensures code { λ r. ⌜ r ≡ placeCode (placeOr (listRefusal (now (coords .entry))) (newellOf (verticesOf (now (coords .entry))))) (length (now (out .entry))) ⌝ }
-    ensures written { λ _. ⌜ now (out .exit) ≡ placeInto (placeOr (listRefusal (now (coords .entry))) (newellOf (verticesOf (now (coords .entry))))) (now (out .entry)) ⌝ }
+    ensures { λ r. ⌜ told r (new out) [] ≡ written (ofPlace (newellNormalAnswer (old coords))) (old out) [] ⌝ }
 {
-    values::put_place(geometry::space::newell_normal(coords), out)
+    answer_lists::put_place(geometry::in_space::newell_normal(coords), out)
 }
 
 #[no_mangle]
 pub extern "C" fn wegrusamt_vertex_centroid(coords: &[f64], out: &mut [f64]) -> u8
-    ensures code { λ r. ⌜ r ≡ placeCode (placeOr (listRefusal (now (coords .entry))) (centroidOf 3 (verticesOf (now (coords .entry))))) (length (now (out .entry))) ⌝ }
-    ensures written { λ _. ⌜ now (out .exit) ≡ placeInto (placeOr (listRefusal (now (coords .entry))) (centroidOf 3 (verticesOf (now (coords .entry))))) (now (out .entry)) ⌝ }
+    ensures { λ r. ⌜ told r (new out) [] ≡ written (ofPlace (vertexCentroidAnswer (old coords))) (old out) [] ⌝ }
 {
-    values::put_place(geometry::space::vertex_centroid(coords), out)
+    answer_lists::put_place(geometry::in_space::vertex_centroid(coords), out)
 }
 
 #[no_mangle]
 pub extern "C" fn wegrusamt_list_bounds(coords: &[f64], out: &mut [f64]) -> u8
-    ensures code { λ r. ⌜ r ≡ extentCode (extentOr (listRefusal (now (coords .entry))) (boundsOf 3 (verticesOf (now (coords .entry))))) (length (now (out .entry))) ⌝ }
-    ensures written { λ _. ⌜ now (out .exit) ≡ extentInto (extentOr (listRefusal (now (coords .entry))) (boundsOf 3 (verticesOf (now (coords .entry))))) (now (out .entry)) ⌝ }
+    ensures { λ r. ⌜ told r (new out) [] ≡ written (ofExtent (listBoundsAnswer (old coords))) (old out) [] ⌝ }
 {
-    values::put_extent(geometry::space::bounds(coords), out)
+    answer_lists::put_extent(geometry::in_space::list_bounds(coords), out)
 }
 
 #[no_mangle]
 pub extern "C" fn wegrusamt_signed_area2(ps: &[f64], out: &mut [f64]) -> u8
-    ensures code { λ r. ⌜ r ≡ numberCode (numberOr (planeRefusal (now (ps .entry))) (signedAreaOf (inPairs (now (ps .entry))))) (length (now (out .entry))) ⌝ }
-    ensures written { λ _. ⌜ now (out .exit) ≡ numberInto (numberOr (planeRefusal (now (ps .entry))) (signedAreaOf (inPairs (now (ps .entry))))) (now (out .entry)) ⌝ }
+    ensures { λ r. ⌜ told r (new out) [] ≡ written (ofNumber (signedArea2Answer (old ps))) (old out) [] ⌝ }
 {
-    values::put_number(geometry::plane::signed_area2(ps), out)
+    answer_lists::put_number(geometry::in_plane::signed_area2(ps), out)
 }
 
 #[no_mangle]
 pub extern "C" fn wegrusamt_vertex_centroid2(ps: &[f64], out: &mut [f64]) -> u8
-    ensures code { λ r. ⌜ r ≡ planePlaceCode (planePlaceOr (planeRefusal (now (ps .entry))) (centroidOf 2 (inPairs (now (ps .entry))))) (length (now (out .entry))) ⌝ }
-    ensures written { λ _. ⌜ now (out .exit) ≡ planePlaceInto (planePlaceOr (planeRefusal (now (ps .entry))) (centroidOf 2 (inPairs (now (ps .entry))))) (now (out .entry)) ⌝ }
+    ensures { λ r. ⌜ told r (new out) [] ≡ written (ofPlanePlace (vertexCentroid2Answer (old ps))) (old out) [] ⌝ }
 {
-    values::put_plane_place(geometry::plane::vertex_centroid2(ps), out)
+    answer_lists::put_plane_place(geometry::in_plane::vertex_centroid2(ps), out)
 }
 
 #[no_mangle]
 pub extern "C" fn wegrusamt_bounds2(ps: &[f64], out: &mut [f64]) -> u8
-    ensures code { λ r. ⌜ r ≡ planeExtentCode (planeExtentOr (planeRefusal (now (ps .entry))) (boundsOf 2 (inPairs (now (ps .entry))))) (length (now (out .entry))) ⌝ }
-    ensures written { λ _. ⌜ now (out .exit) ≡ planeExtentInto (planeExtentOr (planeRefusal (now (ps .entry))) (boundsOf 2 (inPairs (now (ps .entry))))) (now (out .entry)) ⌝ }
+    ensures { λ r. ⌜ told r (new out) [] ≡ written (ofPlaneExtent (bounds2Answer (old ps))) (old out) [] ⌝ }
 {
-    values::put_plane_extent(geometry::plane::bounds2(ps), out)
+    answer_lists::put_plane_extent(geometry::in_plane::bounds2(ps), out)
 }
 
 // The list itself is turned.
 #[no_mangle]
 pub extern "C" fn wegrusamt_into_ccw2(ps: &mut [f64]) -> u8
-    ensures code { λ r. ⌜ r ≡ doneCode (doneOr (planeRefusal (now (ps .entry)))) ⌝ }
-    ensures turned { λ _. ⌜ now (ps .exit) ≡ listOr (planeRefusal (now (ps .entry))) (joined (ccwOf (inPairs (now (ps .entry))))) (now (ps .entry)) ⌝ }
+    ensures { λ r. ⌜ (r, new ps) ≡ doneTold (intoCcw2Answer (old ps)) ⌝ }
 {
-    values::done_code(geometry::plane::into_ccw2(ps))
+    answer_lists::done_code(geometry::in_plane::into_ccw2(ps))
 }

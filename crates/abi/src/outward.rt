@@ -1,17 +1,9 @@
 // Convexity, outward turning, backward faces and planes under C names.
 ghost use mathlib.Core.Path.{_≡_};
-ghost use mathlib.Core.List.{[], _∷_};
-ghost use lib.ListN.{length, getD};
-ghost use Rattle.flat.specs.Points.{verticesOf, cornersOf};
-ghost use Rattle.cell.specs.Faces.{facesOf};
-ghost use Rattle.cell.specs.Description.{cellOf};
-ghost use Rattle.planes.specs.Planes.{planeOf};
-ghost use Rattle.turning.specs.Convexity.{isConvexOf};
-ghost use Rattle.turning.specs.Turning.{turnedOf};
-ghost use Rattle.refusals.specs.Refusals.{cellRefusal, facesRefusal};
-ghost use Rattle.geometry.specs.Answers.{truthOr, describedOr, doneOr, listOr, facePlaneOr};
-ghost use Rattle.abi.specs.Turned.{TurnsInto};
-ghost use Rattle.values.specs.Answers.{shapeKnown, truthCode, truthInto, describedCode, describedInto, doneCode, planeCode, planeInto};
+ghost use mathlib.Core.List.{[]};
+ghost use Rattle.places.specs.Lent.{old, new};
+ghost use Rattle.geometry.specs.Cells.{describeAnswer, isConvexAnswer, intoCcwAnswer, planeOfFaceAnswer};
+ghost use Rattle.geometry.specs.Listed.{told, written, shapeKnown, ofTruth, ofDescribed, doneTold, ofFacePlane, TurnFacesTold};
 
 #[no_mangle]
 pub extern "C" fn wegrusamt_is_convex(
@@ -21,11 +13,16 @@ pub extern "C" fn wegrusamt_is_convex(
     shape: u8,
     out: &mut [usize],
 ) -> u8
-    ensures code { λ r. ⌜ r ≡ truthCode (truthOr (cellRefusal (now (coords .entry)) (now (corners .entry)) (now (ends .entry))) (isConvexOf (shapeKnown shape) (verticesOf (now (coords .entry))) (facesOf (now (corners .entry)) (now (ends .entry))))) (length (now (out .entry))) ⌝ }
-    ensures written { λ _. ⌜ now (out .exit) ≡ truthInto (truthOr (cellRefusal (now (coords .entry)) (now (corners .entry)) (now (ends .entry))) (isConvexOf (shapeKnown shape) (verticesOf (now (coords .entry))) (facesOf (now (corners .entry)) (now (ends .entry))))) (now (out .entry)) ⌝ }
+    ensures { λ r. ⌜ told r [] (new out) ≡ written (ofTruth (isConvexAnswer (old coords) (old corners) (old ends)
+        (shapeKnown shape))) [] (old out) ⌝ }
 {
-    values::put_truth(
-        geometry::is_convex(coords, corners, ends, values::given::shape_known(shape)),
+    answer_lists::put_truth(
+        geometry::is_convex(
+            coords,
+            corners,
+            ends,
+            answer_lists::given::shape_known(shape),
+        ),
         out,
     )
 }
@@ -39,21 +36,25 @@ pub extern "C" fn wegrusamt_describe(
     shape: u8,
     out: &mut [usize],
 ) -> u8
-    ensures code { λ r. ⌜ r ≡ describedCode (describedOr (cellRefusal (now (coords .entry)) (now (corners .entry)) (now (ends .entry))) (cellOf (now (coords .entry)) (now (corners .entry)) (now (ends .entry)) (shapeKnown shape))) (length (now (out .entry))) ⌝ }
-    ensures written { λ _. ⌜ now (out .exit) ≡ describedInto (describedOr (cellRefusal (now (coords .entry)) (now (corners .entry)) (now (ends .entry))) (cellOf (now (coords .entry)) (now (corners .entry)) (now (ends .entry)) (shapeKnown shape))) (now (out .entry)) ⌝ }
+    ensures { λ r. ⌜ told r [] (new out) ≡ written (ofDescribed (describeAnswer (old coords) (old corners) (old ends)
+        (shapeKnown shape))) [] (old out) ⌝ }
 {
-    values::put_described(
-        geometry::describe(coords, corners, ends, values::given::shape_known(shape)),
+    answer_lists::put_described(
+        geometry::describe(
+            coords,
+            corners,
+            ends,
+            answer_lists::given::shape_known(shape),
+        ),
         out,
     )
 }
 
 #[no_mangle]
 pub extern "C" fn wegrusamt_into_ccw(coords: &[f64], corners: &mut [u32], ends: &[u32]) -> u8
-    ensures code { λ r. ⌜ r ≡ doneCode (doneOr (facesRefusal (now (coords .entry)) (now (corners .entry)) (now (ends .entry)) [])) ⌝ }
-    ensures written { λ _. ⌜ now (corners .exit) ≡ listOr (facesRefusal (now (coords .entry)) (now (corners .entry)) (now (ends .entry)) []) (turnedOf (verticesOf (now (coords .entry))) (facesOf (now (corners .entry)) (now (ends .entry)))) (now (corners .entry)) ⌝ }
+    ensures { λ r. ⌜ (r, new corners) ≡ doneTold (intoCcwAnswer (old coords) (old corners) (old ends)) ⌝ }
 {
-    values::done_code(geometry::into_ccw(coords, corners, ends))
+    answer_lists::done_code(geometry::into_ccw(coords, corners, ends))
 }
 
 // One number: how many faces were reversed. Where `out` has no room for it, only the refusal is computed,
@@ -65,16 +66,12 @@ pub extern "C" fn wegrusamt_turn_faces(
     ends: &[u32],
     out: &mut [usize],
 ) -> u8
-    ensures { λ r. ⌜ TurnsInto (now (coords .entry)) (now (corners .entry)) (now (ends .entry)) (now (out .entry)) r (now (corners .exit)) (now (out .exit)) ⌝ }
+    ensures { λ r. ⌜ TurnFacesTold (old coords) (old corners) (old ends) (old out) r (new corners) (new out) ⌝ }
 {
     if out.len() < 1 {
-        let why = refusals::turn_refusal(coords, corners, ends);
-        if why != 0 {
-            return why;
-        }
-        return 6;
+        return answer_lists::untold(geometry::can_turn(coords, corners, ends));
     }
-    values::put_count(geometry::turn_faces(coords, corners, ends), out)
+    answer_lists::put_count(geometry::turn_faces(coords, corners, ends), out)
 }
 
 #[no_mangle]
@@ -85,8 +82,8 @@ pub extern "C" fn wegrusamt_plane_of_face(
     face: u32,
     out: &mut [f64],
 ) -> u8
-    ensures code { λ r. ⌜ r ≡ planeCode (facePlaneOr (facesRefusal (now (coords .entry)) (now (corners .entry)) (now (ends .entry)) (face ∷ [])) (planeOf (cornersOf (verticesOf (now (coords .entry))) (getD (facesOf (now (corners .entry)) (now (ends .entry))) face []))) .answer) (length (now (out .entry))) ⌝ }
-    ensures written { λ _. ⌜ now (out .exit) ≡ planeInto (facePlaneOr (facesRefusal (now (coords .entry)) (now (corners .entry)) (now (ends .entry)) (face ∷ [])) (planeOf (cornersOf (verticesOf (now (coords .entry))) (getD (facesOf (now (corners .entry)) (now (ends .entry))) face []))) .answer) (facePlaneOr (facesRefusal (now (coords .entry)) (now (corners .entry)) (now (ends .entry)) (face ∷ [])) (planeOf (cornersOf (verticesOf (now (coords .entry))) (getD (facesOf (now (corners .entry)) (now (ends .entry))) face []))) .plane) (now (out .entry)) ⌝ }
+    ensures { λ r. ⌜ told r (new out) [] ≡ written (ofFacePlane (planeOfFaceAnswer (old coords) (old corners) (old ends) face))
+        (old out) [] ⌝ }
 {
-    values::put_face_plane(geometry::plane_of_face(coords, corners, ends, face), out)
+    answer_lists::put_face_plane(geometry::plane_of_face(coords, corners, ends, face), out)
 }

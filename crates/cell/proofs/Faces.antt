@@ -54,9 +54,9 @@ module _ {S : Type 0} {f : List ℕ → S → S} {c es : List ℕ} {whole : S} w
   pub face-step : {p k : ℕ} {s : S} {e : ℕ} → Facing f c es whole p k s → k < length es → e ≡ getD es k 0 → Step p es (length c) k e
   face-step {p} {k} {s} {e} l h q = rises-more p es (length c) k e h q (l .ordered)
 
-  pub face-turn : {p k : ℕ} {s s′ : S} {e : ℕ} → Facing f c es whole p k s → k < length es → e ≡ getD es k 0 → s′ ≡ f (slice p e c) s → Facing f c es whole e (k + 1) s′
+  pub face-next : {p k : ℕ} {s s′ : S} {e : ℕ} → Facing f c es whole p k s → k < length es → e ≡ getD es k 0 → s′ ≡ f (slice p e c) s → Facing f c es whole e (k + 1) s′
   unfolding foldList
-  face-turn {p} {k} {s} {s′} {e} l h q g =
+  face-next {p} {k} {s} {s′} {e} l h q g =
       record { within = omega arith; ordered = face-step l h q .rest; so = rw (g, q) (sym (rw (faces-more p c es k h)) ∙ l .so) }
 
   pub face-end : {p k : ℕ} {s : S} → Facing f c es whole p k s → length es ≤ k → s ≡ whole
@@ -98,8 +98,8 @@ module _ {es : List ℕ} {n : ℕ} {refused : Bool} where
   pub falls-start : not (rises 0 es n) ≡ refused → Falling es n refused false 0 0
   falls-start e = record { within = zero-le; so = e }
 
-  pub falls-turn : {fall fall′ : Bool} {p k e : ℕ} → Falling es n refused fall p k → k < length es → e ≡ getD es k 0 → fall′ ≡ fall || ltb e p → Falling es n refused fall′ e (k + 1)
-  falls-turn {fall} {fall′} {p} {k} {e} l h q f =
+  pub falls-next : {fall fall′ : Bool} {p k e : ℕ} → Falling es n refused fall p k → k < length es → e ≡ getD es k 0 → fall′ ≡ fall || ltb e p → Falling es n refused fall′ e (k + 1)
+  falls-next {fall} {fall′} {p} {k} {e} l h q f =
       let all : fall || not (leb p e && rises e (drop (k + 1) es) n) ≡ refused = rw (q, add-one) (rw (drop-cons es k 0 h) at (l .so)) in
       record { within = omega arith; so = rw f (one-more fall (rises e (drop (k + 1) es) n) (decLe p e) ∙ all) }
     where

@@ -14,7 +14,8 @@ use Rattle.places.specs.Lists.{Each}
 use Rattle.places.proofs.Stored.{length-threes}
 use Rattle.flat.specs.Points.{verticesOf}
 use Rattle.cell.specs.Faces.{rises}
-use Rattle.cell.specs.Refusals.{firstRow, wild, notBelow, isEmpty, pointsRefused, sizeRefused, numberRefused, endsRefused, indexRefused, refusalOf, Sound}
+use Rattle.cell.specs.Refusals.{firstRow, outOfRange, notBelow, isEmpty, pointsRefused, sizeRefused, numberRefused, endsRefused, indexRefused, refusalOf}
+use Rattle.cell.specs.Steps.{Sound}
 
 -- ---- the first row that applies
 module _ (n : ℕ) (rows : List (ℕ × Bool)) where
@@ -58,9 +59,9 @@ any-none test d (x ∷ l) e zero h = any-step test x l e .0
 any-none test d (x ∷ l) e (suc k) h = any-none test d l (any-step test x l e .1) k (omega arith)
 
 -- where no number is refused, each is tame, or below n
-pub all-tame : (xs : List Float) → numberRefused xs ≡ false → Each nan (λ x. wild x ≡ false) xs
+pub all-in-range : (xs : List Float) → numberRefused xs ≡ false → Each nan (λ x. outOfRange x ≡ false) xs
 unfolding numberRefused
-all-tame xs e = record { holds = λ k h. any-none wild nan xs e k h }
+all-in-range xs e = record { holds = λ k h. any-none outOfRange nan xs e k h }
 
 pub all-below : (n : ℕ) (cs : List ℕ) → indexRefused n cs ≡ false → Each 0 (λ v. v < n) cs
 unfolding indexRefused

@@ -6,40 +6,40 @@ use lib.ListN.{replicate}
 use lib.Ieee.{nan, inf, binary64, ofBits, le, neg}
 use Rattle.floats.specs.F64.{zero64}
 use Rattle.places.specs.Stored.{inThrees}
-use Rattle.cell.specs.Refusals.{pointsRefused, wild, sizeRefused, endsRefused}
+use Rattle.cell.specs.Refusals.{pointsRefused, outOfRange, sizeRefused, endsRefused}
 
 -- ---- the numbers
-largest-passes : wild (ofBits binary64 0x4270_0000_0000_0000) ≡ false
-unfolding ofBits wild neg le
+largest-passes : outOfRange (ofBits binary64 0x4270_0000_0000_0000) ≡ false
+unfolding ofBits outOfRange neg le
 largest-passes = refl
 
-next-refuses : wild (ofBits binary64 0x4270_0000_0000_0001) ≡ true
-unfolding ofBits wild neg le
+next-refuses : outOfRange (ofBits binary64 0x4270_0000_0000_0001) ≡ true
+unfolding ofBits outOfRange neg le
 next-refuses = refl
 
 -- −2 ^ 40, and the next f64 below it
-least-passes : wild (ofBits binary64 0xc270_0000_0000_0000) ≡ false
-unfolding ofBits wild neg le
+least-passes : outOfRange (ofBits binary64 0xc270_0000_0000_0000) ≡ false
+unfolding ofBits outOfRange neg le
 least-passes = refl
 
-below-refuses : wild (ofBits binary64 0xc270_0000_0000_0001) ≡ true
-unfolding ofBits wild neg le
+below-refuses : outOfRange (ofBits binary64 0xc270_0000_0000_0001) ≡ true
+unfolding ofBits outOfRange neg le
 below-refuses = refl
 
-minus-zero-passes : wild (ofBits binary64 0x8000_0000_0000_0000) ≡ false
-unfolding ofBits wild neg le
+minus-zero-passes : outOfRange (ofBits binary64 0x8000_0000_0000_0000) ≡ false
+unfolding ofBits outOfRange neg le
 minus-zero-passes = refl
 
-nan-refuses : wild nan ≡ true
-unfolding ofBits wild neg le
+nan-refuses : outOfRange nan ≡ true
+unfolding ofBits outOfRange neg le
 nan-refuses = refl
 
-infinity-refuses : wild (inf false) ≡ true
-unfolding ofBits wild neg le
+infinity-refuses : outOfRange (inf false) ≡ true
+unfolding ofBits outOfRange neg le
 infinity-refuses = refl
 
-minus-infinity-refuses : wild (inf true) ≡ true
-unfolding ofBits wild neg le
+minus-infinity-refuses : outOfRange (inf true) ≡ true
+unfolding ofBits outOfRange neg le
 minus-infinity-refuses = refl
 
 -- ---- the vertices: 768 coordinates are 256 of them

@@ -1,3 +1,3 @@
 pub mod Faces
 pub mod Refusals
-pub mod Description
+pub mod Steps

@@ -1,13 +1,13 @@
 -- What is refused, as document 01's table has it: a number and what it is refused for, and the first row that applies decides.
-use mathlib.Core.Path.{_≡_}
 use mathlib.Core.Bool.{Bool, not, _&&_, _||_}
 use mathlib.Core.List.{List, [], _∷_}
-use Prim.Native.Nat.{ℕ, _%_, _≤_}
-use lib.Dec.{T, leb, ltb, eqb}
+use Prim.Native.Nat.{ℕ, _%_}
+use lib.Dec.{leb, ltb, eqb}
 use lib.ListN.{length}
 use lib.Ieee.{Float, binary64, ofBits, le, neg}
+use Rattle.places.specs.Limits.{mostVertices, mostFaces, mostCorners}
 use Rattle.places.specs.Loops.{pick, anyOf}
-use Rattle.flat.specs.Points.{verticesOf, Inside}
+use Rattle.flat.specs.Points.{verticesOf}
 use Rattle.cell.specs.Faces.{facesOf, rises}
 
 -- the number of the first row that applies, and 0 where none does
@@ -22,8 +22,8 @@ abbrev pub limit : Float
 limit = ofBits binary64 0x4270_0000_0000_0000
 
 -- a number is NaN, infinite or above 2 ^ 40 in magnitude: it is not from −2 ^ 40 to 2 ^ 40, with which a NaN does not compare; −0 and 2 ^ 40 itself are
-unfoldable pub wild : Float → Bool
-wild x = not (le (neg limit) x && le x limit)
+unfoldable pub outOfRange : Float → Bool
+outOfRange x = not (le (neg limit) x && le x limit)
 
 -- a number is not below n
 abbrev pub notBelow : ℕ → ℕ → Bool
@@ -39,15 +39,15 @@ unfoldable pub pointsRefused : List Float → Bool
 pointsRefused coords =
     not (eqb (length coords % 3) 0)
     || (eqb (length (verticesOf coords)) 0
-    || ltb 256 (length (verticesOf coords)))
+    || ltb mostVertices (length (verticesOf coords)))
 
 -- 1 size: that, or over 256 faces, or over 2,048 corners
 unfoldable pub sizeRefused : List Float → List ℕ → List ℕ → Bool
-sizeRefused coords corners ends = pointsRefused coords || (ltb 256 (length ends) || ltb 2048 (length corners))
+sizeRefused coords corners ends = pointsRefused coords || (ltb mostFaces (length ends) || ltb mostCorners (length corners))
 
--- 2 number: one of the numbers is wild
+-- 2 number: one of the numbers is out of range
 unfoldable pub numberRefused : List Float → Bool
-numberRefused xs = anyOf wild xs
+numberRefused xs = anyOf outOfRange xs
 
 -- 3 ends: they fall, or the last is not the corner count
 unfoldable pub endsRefused : List ℕ → List ℕ → Bool
@@ -70,13 +70,3 @@ refusalOf coords corners ends query asked =
     ∷ (3, endsRefused corners ends)
     ∷ (4, indexRefused (length (verticesOf coords)) corners || indexRefused (length ends) asked)
     ∷ [])
-
--- what is known of a cell that is not refused, as the rooms want it
-pub record Sound (coords : List Float) (corners ends : List ℕ) : Type 0 where
-  pub threes : length coords % 3 ≡ 0
-  pub some : 1 ≤ length (verticesOf coords)
-  pub few : length (verticesOf coords) ≤ 256
-  pub few-faces : length ends ≤ 256
-  pub few-corners : length corners ≤ 2048
-  pub ordered : T (rises 0 ends (length corners))
-  pub inside : Inside (verticesOf coords) corners

@@ -1,4 +1,4 @@
-// A cell: its description, its faces, and why it is refused.
+// A cell: its faces, and why it is refused.
 ghost use mathlib.Core.Path.{_≡_};
 ghost use mathlib.Core.Bool.{_||_};
 ghost use Prim.Native.Nat.{ℕ, _<_, _≤_};
@@ -7,35 +7,7 @@ ghost use lib.ListN.{length, getD};
 ghost use lib.Seq.{slice};
 ghost use lib.Dec.{T};
 ghost use Rattle.cell.specs.Faces.{facesOf, rises};
-ghost use Rattle.cell.specs.Description.{cellOf};
-ghost use Rattle.cell.specs.Refusals.{wild, pointsRefused, sizeRefused, numberRefused, endsRefused, indexRefused, emptyRefused, refusalOf};
-
-// What is known of a cell's shape.
-pub enum Convexity {
-    Convex,
-    Concave,
-    Unknown,
-}
-
-// A cell beside its lists: how many vertices, corners and faces they hold, and what is known of its shape.
-pub struct Cell {
-    pub vertices: usize,
-    pub corners: usize,
-    pub faces: usize,
-    pub convexity: Convexity,
-}
-
-// The description of a cell's lists.
-pub fn describe(coords: &[f64], corners: &[u32], ends: &[u32], convexity: Convexity) -> Cell
-    ensures { λ r. ⌜ r ≡ cellOf (now (coords .entry)) (now (corners .entry)) (now (ends .entry)) convexity ⌝ }
-{
-    Cell {
-        vertices: coords.len() / 3,
-        corners: corners.len(),
-        faces: ends.len(),
-        convexity,
-    }
-}
+ghost use Rattle.cell.specs.Refusals.{outOfRange, pointsRefused, sizeRefused, numberRefused, endsRefused, indexRefused, emptyRefused, refusalOf};
 
 // A face is shown as its own stretch of the lent corner list.
 pub fn face(corners: &[u32], start: usize, end: usize) -> &[u32]
@@ -46,7 +18,7 @@ pub fn face(corners: &[u32], start: usize, end: usize) -> &[u32]
 }
 
 // Where face k starts: at the end before it, at 0 for the first.
-pub fn start(ends: &[u32], k: usize) -> usize
+fn start(ends: &[u32], k: usize) -> usize
     requires { ⌜ k < length (now ends) ⌝ }
     ensures { λ r. ⌜ r ≡ getD (0 ∷ now (ends .entry)) k 0 ⌝ }
 {
@@ -65,8 +37,8 @@ pub fn face_by_number<'a>(corners: &'a [u32], ends: &[u32], k: usize) -> &'a [u3
 }
 
 // A number that is NaN, infinite or above 2^40 in magnitude.
-pub fn is_wild(x: f64) -> bool
-    ensures { λ r. ⌜ r ≡ wild x ⌝ }
+fn out_of_range(x: f64) -> bool
+    ensures { λ r. ⌜ r ≡ outOfRange x ⌝ }
 {
     if x >= -1099511627776.0 {
         !(x <= 1099511627776.0)
@@ -86,25 +58,25 @@ pub fn points_refused(coords: &[f64]) -> bool
     if n == 0 {
         return true;
     }
-    n > 768
+    n > places::limits::MOST_COORDINATES
 }
 
 // Refusal 1: that, or over 256 faces, or over 2,048 corners.
-pub fn size_refused(coords: &[f64], corners: &[u32], ends: &[u32]) -> bool
+fn size_refused(coords: &[f64], corners: &[u32], ends: &[u32]) -> bool
     ensures { λ r. ⌜ r ≡ sizeRefused (now (coords .entry)) (now (corners .entry)) (now (ends .entry)) ⌝ }
 {
     if points_refused(coords) {
         return true;
     }
-    if ends.len() > 256 {
+    if ends.len() > places::limits::MOST_FACES {
         return true;
     }
-    corners.len() > 2048
+    corners.len() > places::limits::MOST_CORNERS
 }
 
 // Whether one of the two holds.
 // Ruled out: both asked for; the second alone.
-pub fn either(a: bool, b: bool) -> bool
+pub fn one_or_both(a: bool, b: bool) -> bool
     ensures { λ r. ⌜ r ≡ (a || b) ⌝ }
 {
     if a { true } else { b }
@@ -118,7 +90,7 @@ pub fn number_refused(xs: &[f64]) -> bool
     let mut refused = false;
     let mut i = 0;
     while i < n {
-        refused = either(refused, is_wild(places::num(xs, i)));
+        refused = one_or_both(refused, out_of_range(places::num(xs, i)));
         i += 1;
     }
     refused
@@ -134,7 +106,7 @@ pub fn stored(cs: &[u32], i: usize) -> u32
 }
 
 // Refusal 3: the ends fall, or the last is not the corner count. Every end is looked at, without an exit.
-pub fn ends_refused(corners: &[u32], ends: &[u32]) -> bool
+fn ends_refused(corners: &[u32], ends: &[u32]) -> bool
     ensures { λ r. ⌜ r ≡ endsRefused (now (corners .entry)) (now (ends .entry)) ⌝ }
 {
     let n = ends.len();
@@ -143,15 +115,15 @@ pub fn ends_refused(corners: &[u32], ends: &[u32]) -> bool
     let mut k = 0;
     while k < n {
         let end = stored(ends, k);
-        fall = either(fall, end < start);
+        fall = one_or_both(fall, end < start);
         start = end;
         k += 1;
     }
-    either(fall, start as usize != corners.len())
+    one_or_both(fall, start as usize != corners.len())
 }
 
 // Refusal 4: one of the numbers is not below n.
-pub fn index_refused(n: usize, cs: &[u32]) -> bool
+fn index_refused(n: usize, cs: &[u32]) -> bool
     requires { ⌜ n < 4294967296 ⌝ }
     ensures { λ r. ⌜ r ≡ indexRefused n (now (cs .entry)) ⌝ }
 {
@@ -160,7 +132,7 @@ pub fn index_refused(n: usize, cs: &[u32]) -> bool
     let mut refused = false;
     let mut i = 0;
     while i < m {
-        refused = either(refused, stored(cs, i) >= beyond);
+        refused = one_or_both(refused, stored(cs, i) >= beyond);
         i += 1;
     }
     refused

@@ -1,54 +1,102 @@
 // Reads records from standard input and writes the report's lines to standard output.
 ghost use Prim.Native.Nat.{_+_, _^_, _≤_, _<_};
 ghost use mathlib.Core.Path.{_≡_};
-ghost use lib.ListN.{length};
+ghost use lib.ListN.{length, take, drop};
 ghost use Rattle.records.specs.Tally.{Sized, Fits};
+ghost use Rattle.report.specs.Report.{heldOf};
+ghost use Rattle.report.specs.Split.{Takes, Running, WentOn};
 use records::tally::Tally;
+use report::stream::Fed;
 use report::stream::feed;
 use report::stream::finish;
 
-// What a read gave: so many bytes, 0 at the end of the input, or it failed.
+// What a read gave behind the bytes that waited: so many bytes, 0 at the end of the input, or it
+// failed.
 struct Came {
+    waited: usize,
     bytes: usize,
     failed: bool,
 }
 
-// Reads once, behind the bytes that the block has already.
+// Reads once, behind the bytes that the block has already: these stay.
 fn read_more(block: &mut [u8], have: usize) -> Came
     requires { ⌜ have ≤ length (now block) ⌝ }
-    ensures { λ r. ⌜ have + r .bytes ≤ length (now (block .entry)) ⌝ }
+    ensures { λ r. ⌜ (r .waited ≡ have) × (have + r .bytes ≤ length (now (block .entry))) ⌝ }
+    ensures { λ _. ⌜ take have (now (block .exit)) ≡ take have (now (block .entry)) ⌝ }
 {
     let got = libc::read(0, &mut block[have..]);
     let bytes = io::count(got, &block[have..]);
     Came {
+        waited: have,
         bytes,
         failed: got < 0,
     }
 }
 
-// After a turn: the tally, the bytes that wait, whether to go on, and whether the input has ended.
+// The bytes that came are fed behind those that waited: a run takes exactly them, and `out` has at
+// its front what they print.
+fn take_in(
+    t: Tally,
+    came: Came,
+    block: &mut [u8],
+    coords: &mut [f64],
+    corners: &mut [u32],
+    ends: &mut [u32],
+    queries: &mut [f64],
+    out: &mut [u8],
+) -> Fed
+    requires { ⌜ Sized (now coords) (now corners) (now ends) (now queries) ⌝ }
+    requires { ⌜ Fits t ⌝ }
+    requires { ⌜ (t .number + 65536 < 2 ^ 64) × (came .waited + came .bytes ≤ length (now block)) × (length (now block) ≡ 65536) × (524288 ≤ length (now out)) ⌝ }
+    ensures { λ d. ⌜ Fits (d .tally) × (d .tally .number ≤ t .number + 2048) × (d .have < 32) × (d .made ≤ length (now (out .entry))) ⌝ }
+    ensures { λ d. ⌜ Takes (heldOf t (now (coords .entry)) (now (corners .entry)) (now (ends .entry)) (now (queries .entry))) (take (came .waited) (now (block .entry))) (take (came .bytes) (drop (came .waited) (now (block .entry)))) (heldOf (d .tally) (now (coords .exit)) (now (corners .exit)) (now (ends .exit)) (now (queries .exit))) (take (d .have) (now (block .exit))) (take (d .made) (now (out .exit))) ⌝ }
+{
+    let total = came.waited + came.bytes;
+    feed(t, total, block, coords, corners, ends, queries, out)
+}
+
+// After a read: the tally, how many bytes wait, how many bytes of `out` were to be written, whether
+// to go on, and whether the input has ended.
 struct Went {
     tally: Tally,
     have: usize,
+    made: usize,
     more: bool,
     ended: bool,
 }
 
 // Nothing more is read: the input has ended, or could not be read.
 fn stopped(tally: Tally, have: usize, ended: bool) -> Went
-    ensures { λ w. ⌜ (w .tally ≡ tally) × (w .have ≡ have) ⌝ }
+    ensures { λ w. ⌜ (w .tally ≡ tally) × (w .have ≡ have) × (w .made ≡ 0) ⌝ }
 {
     Went {
         tally,
         have,
+        made: 0,
         more: false,
         ended,
     }
 }
 
+// What came was fed; it goes on where the output takes more.
+fn went_on(d: Fed, more: bool) -> Went
+    ensures { λ w. ⌜ (w .tally ≡ d .tally) × (w .have ≡ d .have) × (w .made ≡ d .made) ⌝ }
+{
+    let tally = d.tally;
+    Went {
+        tally,
+        have: d.have,
+        made: d.made,
+        more,
+        ended: false,
+    }
+}
+
 // Reads once, and writes the lines of the records that are whole. A failed read is said on standard
 // error, and is not the end of the input; an output that takes no more ends the program quietly.
-fn turn(
+// The state before and after are those of a run, whose lines stand in `out`; no contract can say
+// that `read` gave the input's bytes, or what `write` wrote.
+fn read_once(
     t: Tally,
     have: usize,
     block: &mut [u8],
@@ -61,7 +109,9 @@ fn turn(
     requires { ⌜ Sized (now coords) (now corners) (now ends) (now queries) ⌝ }
     requires { ⌜ Fits t ⌝ }
     requires { ⌜ (t .number + 65536 < 2 ^ 64) × (have < 32) × (length (now block) ≡ 65536) × (524288 ≤ length (now out)) ⌝ }
+    requires { ⌜ Running (heldOf t (now coords) (now corners) (now ends) (now queries)) (take have (now block)) ⌝ }
     ensures { λ w. ⌜ Fits (w .tally) × (w .tally .number ≤ t .number + 2048) × (w .have < 32) ⌝ }
+    ensures { λ w. ⌜ WentOn (heldOf t (now (coords .entry)) (now (corners .entry)) (now (ends .entry)) (now (queries .entry))) (take have (now (block .entry))) (heldOf (w .tally) (now (coords .exit)) (now (corners .exit)) (now (ends .exit)) (now (queries .exit))) (take (w .have) (now (block .exit))) (take (w .made) (now (out .exit))) ⌝ }
 {
     let came = read_more(block, have);
     if came.failed {
@@ -71,29 +121,13 @@ fn turn(
     if came.bytes == 0 {
         return stopped(t, have, true);
     }
-    let d = feed(
-        t,
-        have + came.bytes,
-        block,
-        coords,
-        corners,
-        ends,
-        queries,
-        out,
-    );
+    let d = take_in(t, came, block, coords, corners, ends, queries, out);
     let made = d.made;
     let more = io::write_all(1, &out[..made]);
-    let tally = d.tally;
-    let have = d.have;
-    Went {
-        tally,
-        have,
-        more,
-        ended: false,
-    }
+    went_on(d, more)
 }
 
-// Nothing says that the input ends, so the loop counts its turns down, from a number that no run
+// Nothing says that the input ends, so the loop counts its reads down, from a number that no run
 // uses up.
 fn run(
     block: &mut [u8],
@@ -110,14 +144,14 @@ fn run(
     let mut have = 0;
     let mut more = true;
     let mut ended = false;
-    let mut turns = 1125899906842624u64;
-    while more && turns > 0 {
-        let w = turn(t, have, block, coords, corners, ends, queries, out);
+    let mut reads = 1125899906842624u64;
+    while more && reads > 0 {
+        let w = read_once(t, have, block, coords, corners, ends, queries, out);
         t = w.tally;
         have = w.have;
         more = w.more;
         ended = w.ended;
-        turns -= 1;
+        reads -= 1;
     }
     if ended {
         let k = finish(t, have, out);

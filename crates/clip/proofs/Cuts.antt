@@ -13,12 +13,11 @@ use Rattle.places.specs.Stored.{inThrees}
 use Rattle.places.proofs.Stored.{length-threes, threes-take, threes-front}
 use Rattle.flat.specs.Points.{Point}
 use Rattle.planes.specs.declared.Plane.{Plane}
-use Rattle.work.specs.declared.Step.{Step}
-use Rattle.work.specs.declared.Step.the-variants.{Kept, Full, Gone, Made}
-use Rattle.work.specs.Work.{Filled}
-use Rattle.work.specs.Steps.{Shows, Moved, shows-whole, shows-full, shows-gone, shows-made}
-use Rattle.work.proofs.Filling.{filled-read, filled-over, filled-within}
-use Rattle.trim.specs.Doubled.{withoutDoubled}
+use Rattle.work_lists.specs.declared.Step.{Step}
+use Rattle.work_lists.specs.declared.Step.the-variants.{Kept, Full, Gone, Made}
+use Rattle.work_lists.specs.Steps.{Filled, Shows, Moved, shows-whole, shows-full, shows-gone, shows-made}
+use Rattle.work_lists.proofs.Filling.{filled-read, filled-over, filled-within}
+use Rattle.clip_step.specs.Doubled.{withoutDoubled}
 use Rattle.clip.specs.Clip.{beyond, cutChange, slice, planeChange}
 
 pub cut-full : {room m : ℕ} {cut before after list : List Point} → Filled cut 0 before m after → room < m → Shows room (cutChange room cut) Full list

@@ -9,9 +9,9 @@ use Rattle.places.specs.Loops.{pick, countOf}
 use Rattle.flat.specs.Points.{Point}
 use Rattle.planes.specs.declared.Plane.{Plane}
 use Rattle.planes.specs.Planes.{distanceOf}
-use Rattle.work.specs.Work.{Change, whole, gone, full, made, Outcome, clippedOf}
-use Rattle.trim.specs.Trim.{trimmedBy}
-use Rattle.trim.specs.Doubled.{withoutDoubled}
+use Rattle.work_lists.specs.WorkLists.{Change, whole, gone, full, made, Outcome, clippedOf}
+use Rattle.clip_step.specs.ClipStep.{trimmedBy}
+use Rattle.clip_step.specs.Doubled.{withoutDoubled}
 
 -- tested whole, a point is out when its distance is above eps, so that NaN is not
 abbrev pub beyond : Plane → Float → Point → Bool

@@ -1,17 +1,19 @@
 // A face clipped by planes, one after the other, from one work list into the other and back.
 use planes::Plane;
-use work::Clipped;
-use work::Step;
+use work_lists::Left;
+use work_lists::Step;
 ghost use mathlib.Core.Path.{_≡_};
 ghost use mathlib.Core.Bool.{Bool, true, false, not};
 ghost use Prim.Native.Nat.{_<_, _≤_};
 ghost use lib.ListN.{length, take};
+ghost use Rattle.places.specs.Limits.{mostCorners, mostWorkNumbers};
 ghost use Rattle.places.specs.Loops.{pick, countOf};
-ghost use Rattle.flat.specs.Points.{verticesOf, Inside, cornersOf};
+ghost use Rattle.flat.specs.Points.{verticesOf, cornersOf};
+ghost use Rattle.flat.specs.Steps.{Inside};
 ghost use Rattle.planes.specs.Planes.{inFours};
-ghost use Rattle.work.specs.Work.{runOf, shorterOf, Ended, Settled};
-ghost use Rattle.work.specs.Steps.{Shows, Moved};
-ghost use Rattle.trim.specs.Trim.{trimmedBy};
+ghost use Rattle.work_lists.specs.WorkLists.{runOf, shorterOf};
+ghost use Rattle.work_lists.specs.Steps.{Ended, Settled, Shows, Moved};
+ghost use Rattle.clip_step.specs.ClipStep.{trimmedBy};
 ghost use Rattle.clip.specs.Clip.{beyond, cutChange, slice, planeChange, clipFaceOf};
 
 // How many points of an outline are beyond a plane.
@@ -33,15 +35,15 @@ fn count_out(src: &[f64], plane: Plane, eps: f64) -> usize
 // An outline cut by a plane into another list, without doubled points.
 fn cut(src: &[f64], dst: &mut [f64], room: usize, plane: Plane, eps: f64) -> Step
     requires { ⌜ 0 < length (verticesOf (now src)) ⌝ }
-    requires { ⌜ (length (now src) ≤ 3072) × (length (now dst) ≤ 3072) ⌝ }
+    requires { ⌜ (length (now src) ≤ mostWorkNumbers) × (length (now dst) ≤ mostWorkNumbers) ⌝ }
     requires { ⌜ room ≤ length (verticesOf (now dst)) ⌝ }
     ensures { λ r. ⌜ Shows room (cutChange room (trimmedBy plane eps (verticesOf (now (src .entry))))) r (verticesOf (now (dst .exit))) ⌝ }
 {
-    let m = trim::trim_by_plane(src, dst, plane, eps);
+    let m = clip_step::trim_by_plane(src, dst, plane, eps);
     if room < m {
         return Step::Full;
     }
-    let left = trim::doubled::remove_consecutive_duplicates(&mut dst[0..m * 3]);
+    let left = clip_step::doubled::remove_consecutive_duplicates(&mut dst[0..m * 3]);
     if left < 3 {
         return Step::Gone;
     }
@@ -58,7 +60,7 @@ fn cut_from(
     plane: Plane,
     eps: f64,
 ) -> Step
-    requires { ⌜ (length (now first) ≤ 3072) × (length (now second) ≤ 3072) ⌝ }
+    requires { ⌜ (length (now first) ≤ mostWorkNumbers) × (length (now second) ≤ mostWorkNumbers) ⌝ }
     requires { ⌜ (0 < n) × (n ≤ room) × (room ≤ length (verticesOf (now first))) × (room ≤ length (verticesOf (now second))) ⌝ }
     ensures { λ r. ⌜ Moved room (slice room eps) plane n in_second (verticesOf (now (first .entry))) (verticesOf (now (second .entry))) r (verticesOf (now (first .exit))) (verticesOf (now (second .exit))) ⌝ }
 {
@@ -78,14 +80,18 @@ fn advance(
     plane: Plane,
     eps: f64,
 ) -> Step
-    requires { ⌜ (length (now first) ≤ 3072) × (length (now second) ≤ 3072) ⌝ }
+    requires { ⌜ (length (now first) ≤ mostWorkNumbers) × (length (now second) ≤ mostWorkNumbers) ⌝ }
     requires { ⌜ (n ≤ room) × (room ≤ length (verticesOf (now first))) × (room ≤ length (verticesOf (now second))) ⌝ }
     ensures { λ r. ⌜ Moved room (planeChange room eps) plane n in_second (verticesOf (now (first .entry))) (verticesOf (now (second .entry))) r (verticesOf (now (first .exit))) (verticesOf (now (second .exit))) ⌝ }
 {
     if n < 3 {
         return Step::Gone;
     }
-    let out = count_out(work::shown(first, second, n * 3, in_second), plane, eps);
+    let out = count_out(
+        work_lists::shown(first, second, n * 3, in_second),
+        plane,
+        eps,
+    );
     if out == 0 {
         return Step::Kept;
     }
@@ -103,8 +109,8 @@ fn run(
     room: usize,
     planes: &[f64],
     eps: f64,
-) -> Clipped
-    requires { ⌜ (length (now first) ≤ 3072) × (length (now second) ≤ 3072) ⌝ }
+) -> Left
+    requires { ⌜ (length (now first) ≤ mostWorkNumbers) × (length (now second) ≤ mostWorkNumbers) ⌝ }
     requires { ⌜ (count ≤ room) × (room ≤ length (verticesOf (now first))) × (room ≤ length (verticesOf (now second))) ⌝ }
     ensures { λ r. ⌜ Ended (runOf (planeChange room eps) (inFours (now (planes .entry))) false (take count (verticesOf (now (first .entry))))) r (verticesOf (now (first .exit))) (verticesOf (now (second .exit))) ⌝ }
 {
@@ -117,8 +123,8 @@ fn run(
         i += 1;
         match advance(first, second, in_second, n, room, plane, eps) {
             Step::Kept => {}
-            Step::Gone => return Clipped::Nothing,
-            Step::Full => return Clipped::Refused(6),
+            Step::Gone => return Left::Nothing,
+            Step::Full => return Left::NoRoom,
             Step::Made(left) => {
                 n = left;
                 in_second = !in_second;
@@ -126,16 +132,16 @@ fn run(
         }
     }
     if n == 0 {
-        return Clipped::Nothing;
+        return Left::Nothing;
     }
-    Clipped::Outline(n, in_second)
+    Left::Outline(n, in_second)
 }
 
 // The points of a face laid down at the front of a list.
 fn gather(coords: &[f64], face: &[u32], dst: &mut [f64])
     requires { ⌜ Inside (verticesOf (now coords)) (now face) ⌝ }
     requires { ⌜ length (now face) ≤ length (verticesOf (now dst)) ⌝ }
-    requires { ⌜ length (now face) ≤ 2048 ⌝ }
+    requires { ⌜ length (now face) ≤ mostCorners ⌝ }
     ensures { λ _. ⌜ take (length (now (face .entry))) (verticesOf (now (dst .exit))) ≡ cornersOf (verticesOf (now (coords .entry))) (now (face .entry)) ⌝ }
 {
     let n = face.len();
@@ -155,15 +161,15 @@ pub fn clip_face(
     eps: f64,
     first: &mut [f64],
     second: &mut [f64],
-) -> Clipped
+) -> Left
     requires { ⌜ Inside (verticesOf (now coords)) (now face) ⌝ }
-    requires { ⌜ (length (now face) ≤ 2048) × (length (now planes) ≤ 1024) ⌝ }
-    requires { ⌜ (length (now first) ≤ 3072) × (length (now second) ≤ 3072) ⌝ }
+    requires { ⌜ (length (now face) ≤ mostCorners) × (length (now planes) ≤ 1024) ⌝ }
+    requires { ⌜ (length (now first) ≤ mostWorkNumbers) × (length (now second) ≤ mostWorkNumbers) ⌝ }
     ensures { λ r. ⌜ Ended (clipFaceOf (shorterOf (length (verticesOf (now (first .entry)))) (length (verticesOf (now (second .entry))))) eps (inFours (now (planes .entry))) (cornersOf (verticesOf (now (coords .entry))) (now (face .entry)))) r (verticesOf (now (first .exit))) (verticesOf (now (second .exit))) ⌝ }
 {
-    let room = work::shorter(first.len() / 3, second.len() / 3);
+    let room = work_lists::shorter(first.len() / 3, second.len() / 3);
     if room < face.len() {
-        return Clipped::Refused(6);
+        return Left::NoRoom;
     }
     gather(coords, face, first);
     run(first, second, face.len(), room, planes, eps)
@@ -178,13 +184,13 @@ pub fn clip_face_shown(
     eps: f64,
     first: &mut [f64],
     second: &mut [f64],
-) -> Clipped
+) -> Left
     requires { ⌜ Inside (verticesOf (now coords)) (now face) ⌝ }
-    requires { ⌜ (length (now face) ≤ 2048) × (length (now planes) ≤ 1024) ⌝ }
-    requires { ⌜ (length (now first) ≤ 3072) × (length (now second) ≤ 3072) ⌝ }
+    requires { ⌜ (length (now face) ≤ mostCorners) × (length (now planes) ≤ 1024) ⌝ }
+    requires { ⌜ (length (now first) ≤ mostWorkNumbers) × (length (now second) ≤ mostWorkNumbers) ⌝ }
     ensures { λ r. ⌜ Settled (clipFaceOf (shorterOf (length (verticesOf (now (first .entry)))) (length (verticesOf (now (second .entry))))) eps (inFours (now (planes .entry))) (cornersOf (verticesOf (now (coords .entry))) (now (face .entry)))) r (now (first .entry)) (now (second .entry)) (now (first .exit)) (now (second .exit)) ⌝ }
 {
     let r = clip_face(coords, face, planes, eps, first, second);
-    work::settle_answer(first, second, r, 3);
+    work_lists::settle_answer(first, second, r, 3);
     r
 }

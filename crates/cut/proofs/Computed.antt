@@ -7,10 +7,11 @@ use Rattle.places.specs.Ring.{foldPairs, prevOf, nextOf, earOf}
 use Rattle.floats.specs.Pick.{magnitudeOf}
 use Rattle.flat.specs.Points.{cornersOf}
 use Rattle.flat.specs.Flat.{cross2Of, newellSide, newellOf, axisOf, project2Of, areaSide, summedAreaOf, pointOf, pointsOf}
-use Rattle.choice.specs.Choice.{directionOf, turnsOf, sameOf, strictlyIn, blocksOf, blockedOf, turnsAt, earAt, findEar, findTurn, chooseOf}
-use Rattle.cut.specs.Cut.{cutRing, choiceOf, cutIn, axisFor, cutOf}
+use Rattle.next_corner.specs.NextCorner.{directionOf, turnsOf, sameOf, strictlyIn, blocksOf, blockedOf, turnsAt, earAt, findEar, findTurn}
+use Rattle.next_corner.specs.NextCorner.{findCorner}
+use Rattle.cut.specs.Cut.{cutRing, nextCornerOf, cutIn, axisFor, cutOf}
 
 -- 'unfolding computed' opens them all
 unfoldable pub computed : Unit {0}
-unfolding ofInt ofBits add sub mul neg lt le eq anyOf firstFrom without foldPairs prevOf nextOf earOf inThrees magnitudeOf cornersOf cross2Of newellSide newellOf axisOf project2Of areaSide summedAreaOf directionOf turnsOf sameOf strictlyIn blocksOf blockedOf turnsAt earAt findEar findTurn chooseOf cutRing pointOf pointsOf choiceOf cutIn axisFor cutOf
+unfolding ofInt ofBits add sub mul neg lt le eq anyOf firstFrom without foldPairs prevOf nextOf earOf inThrees magnitudeOf cornersOf cross2Of newellSide newellOf axisOf project2Of areaSide summedAreaOf directionOf turnsOf sameOf strictlyIn blocksOf blockedOf turnsAt earAt findEar findTurn findCorner cutRing pointOf pointsOf nextCornerOf cutIn axisFor cutOf
 computed = tt

@@ -22,11 +22,13 @@ use Rattle.exact.proofs.Balance.{Anti, sum-append, half}
 use Rattle.exact.proofs.Ears.{cut-one}
 use Rattle.exact.proofs.Alike.{Alike, sum-faces}
 use Rattle.exact.proofs.Volume.{Three}
-use Rattle.flat.specs.Points.{Point, Inside}
-use Rattle.choice.specs.Choice.{turnsAt}
+use Rattle.flat.specs.Points.{Point}
+use Rattle.flat.specs.Steps.{Inside}
+use Rattle.next_corner.specs.NextCorner.{turnsAt}
 use Rattle.flat.specs.Flat.{pointOf, pointsOf}
-use Rattle.cut.specs.Cut.{Cut, nothing, emitted, stopped, clipped, cutWith, cutRing, choiceOf, cutIn, axisFor, directionFor, cutOf}
-use Rattle.choice.proofs.Choices.{choose-below, choose-none}
+use Rattle.cut.specs.Cut.{Cut, nothing, emitted, stopped, clipped, cutWith, cutRing, nextCornerOf, cutIn, axisFor, directionFor}
+use Rattle.cut.specs.Cut.{cutOf}
+use Rattle.next_corner.proofs.NextCorner.{choose-below, choose-none}
 
 -- ---- the induction
 -- a property of rings and their cuts, kept by each way of cutting
@@ -51,10 +53,10 @@ module _ (choose : List ℕ → Found) (P : List ℕ → Cut → Type 0) (valid 
 module _ (vs : List Point) (face : List ℕ) where
   -- the choice that a face's rings are cut by
   abbrev pub choice : List ℕ → Found
-  choice = choiceOf vs (axisFor vs face) (directionFor vs face)
+  choice = nextCornerOf vs (axisFor vs face) (directionFor vs face)
 
   valid : (r : List ℕ) (k : ℕ) → choice r ≡ At k → k < length r
-  unfolding choiceOf pointsOf
+  unfolding nextCornerOf pointsOf
   valid r k e = omega (arith, choose-below (pointsOf vs (axisFor vs face) r) (directionFor vs face) k e, length-map r (pointOf vs (axisFor vs face)))
 
   pub cut-all : (P : List ℕ → Cut → Type 0) → Kept choice P → P face (cutOf vs face)
@@ -144,5 +146,5 @@ cut-alike vs face = record {
 
 -- ---- where a ring is left no corner of it turns the way of the face
 pub stuck-turns : (vs : List Point) (face ring : List ℕ) → choice vs face ring ≡ Nothing → (k : ℕ) → k < length ring → turnsAt (pointsOf vs (axisFor vs face) ring) (directionFor vs face) k ≡ false
-unfolding choiceOf pointsOf
+unfolding nextCornerOf pointsOf
 stuck-turns vs face ring e k h = choose-none (pointsOf vs (axisFor vs face) ring) (directionFor vs face) e k (omega (arith, length-map ring (pointOf vs (axisFor vs face))))

@@ -1,4 +1,4 @@
--- The loop of `cut_ring`: what holds at its head, and that each turn keeps it.
+-- The loop of `cut_ring`: what holds at its head, and that each step keeps it.
 use mathlib.Core.Path.{_≡_, refl, sym, ap, _∙_}
 use mathlib.Core.Bool.{Bool, true, false}
 use mathlib.Core.List.{List, [], _∷_, _++_}
@@ -9,18 +9,19 @@ use borrow.Author.Tests.{le-ltb, lt-ltb}
 use lib.ListN.{length, getD, take, drop, set, length-map}
 use lib.Seq.{sets, take-length, length-take-le, length-front}
 use lib.Ieee.{Float}
-use Rattle.places.specs.Lists.{without, removed}
+use Rattle.places.specs.Lists.{without}
+use Rattle.places.specs.Steps.{removed}
 use Rattle.places.specs.Ring.{earOf}
 use Rattle.places.specs.declared.Found.{Found}
 use Rattle.places.specs.declared.Found.the-variants.{At, Nothing}
 use Rattle.places.proofs.Lists.{take-removed, take-three, map-without, sets-front}
-use Rattle.choice.specs.Choice.{chooseOf, directionOf}
+use Rattle.next_corner.specs.NextCorner.{findCorner, directionOf}
 use Rattle.flat.specs.Points.{Point, cornersOf}
 use Rattle.flat.specs.Flat.{newellOf, axisOf, pointOf, pointsOf}
-use Rattle.cut.specs.Cut.{Cut, cutRing, choiceOf, cutIn, axisFor, cutOf}
-use Rattle.cut.specs.Lent.{StepAt, Stepped, Shown}
+use Rattle.cut.specs.Cut.{Cut, cutRing, nextCornerOf, cutIn, axisFor, cutOf}
+use Rattle.cut.specs.Steps.{StepAt, Stepped, Shown}
 use Rattle.cut.specs.declared.Counts.{Counts}
-use Rattle.choice.proofs.Choices.{choose-below}
+use Rattle.next_corner.proofs.NextCorner.{choose-below}
 
 -- one step of the definition, at a ring of m corners
 module _ (choose : List ℕ → Found) (m : ℕ) (ring : List ℕ) where
@@ -49,7 +50,7 @@ module _ {f : Found} {ns : List ℕ} {ps : List Point} {out : List (List ℕ)} {
   step-no s e = go f (s .did)
     where
       go : (f : Found) → StepAt f ns ps out t r ns′ ps′ out′ → (f ≡ Nothing) × (out′ ≡ out)
-      go Nothing s = (refl, s .1)
+      go Nothing s = (refl, s .3)
       go (At k) s = (cc, cc)
 
   pub step-yes : Stepped f ns ps out t r ns′ ps′ out′ → r ≡ true
@@ -62,7 +63,7 @@ module _ {f : Found} {ns : List ℕ} {ps : List Point} {out : List (List ℕ)} {
 
 module _ (vs : List Point) (axis : ℕ) (dir : Float) where
   abbrev rest : ℕ → List ℕ → Cut
-  rest m ring = cutRing (choiceOf vs axis dir) (m - 3) ring
+  rest m ring = cutRing (nextCornerOf vs axis dir) (m - 3) ring
 
   -- the ring is the first m of ns, its points the first m of ps; t triangles are written; what is left to do from here makes the whole
   pub record Going (whole : Cut) (n : ℕ) (out₀ : List (List ℕ)) (ns : List ℕ) (ps : List Point) (out : List (List ℕ)) (m t : ℕ) : Type 0 where
@@ -100,8 +101,8 @@ start vs axis ns ps out dir l r s d =
 
 module _ {vs : List Point} {axis : ℕ} {dir : Float} {whole : Cut} {n : ℕ} {out₀ : List (List ℕ)} {ns : List ℕ} {ps : List Point} {out : List (List ℕ)} {m t : ℕ} (g : Going vs axis dir whole n out₀ ns ps out m t) where
   -- the choice by the list of points is the choice by the ring of numbers
-  chosen : choiceOf vs axis dir (take m ns) ≡ chooseOf (take m ps) dir
-  unfolding choiceOf
+  chosen : nextCornerOf vs axis dir (take m ns) ≡ findCorner (take m ps) dir
+  unfolding nextCornerOf
   chosen = rw (g .seen)
 
   -- the ring's two lists, side by side
@@ -117,9 +118,9 @@ module _ {vs : List Point} {axis : ℕ} {dir : Float} {whole : Cut} {n : ℕ} {o
   shown r out′ a b h e = record { count = a; over = b; written = e ∙ sets-front out₀ (whole .triangles) (omega arith) ∙ rw a }
 
   -- no corner can be cut: stop
-  pub stop : (out′ : List (List ℕ)) → 3 < m → chooseOf (take m ps) dir ≡ Nothing → out′ ≡ out → Shown whole (record { triangles = t; left = m }) out₀ out′
+  pub stop : (out′ : List (List ℕ)) → 3 < m → findCorner (take m ps) dir ≡ Nothing → out′ ≡ out → Shown whole (record { triangles = t; left = m }) out₀ out′
   stop out′ h e o =
-      let q = cut-none (choiceOf vs axis dir) m (take m ns) h (chosen ∙ e) in
+      let q = cut-none (nextCornerOf vs axis dir) m (take m ns) h (chosen ∙ e) in
       let l : length (take m ns) ≡ m = length-take-le m ns (omega (arith, g .high, g .many)) in
       shown (record { triangles = t; left = m }) out′ (omega (arith, rw q at (g .count))) (sym l ∙ ap length (rw q at (g .over))) (omega (arith, g .room)) (o ∙ (rw q at (g .written)))
 
@@ -127,12 +128,12 @@ module _ {vs : List Point} {axis : ℕ} {dir : Float} {whole : Cut} {n : ℕ} {o
   pub end : (out′ : List (List ℕ)) → m ≤ 3 → out′ ≡ set out t (getD ns 0 0 ∷ getD ns 1 0 ∷ getD ns 2 0 ∷ []) → Shown whole (record { triangles = t + 1; left = 0 }) out₀ out′
   end out′ h o =
       let e : m ≡ 3 = omega (arith, g .low) in
-      let q = cut-three (choiceOf vs axis dir) m (take m ns) h in
+      let q = cut-three (nextCornerOf vs axis dir) m (take m ns) h in
       shown (record { triangles = t + 1; left = 0 }) out′ (omega (arith, rw q at (g .count))) (ap length (rw q at (g .over))) (omega (arith, g .room))
       (o ∙ rw (← take-three ns (omega (arith, g .high, g .many)), ← e) (rw q at (g .written)))
 
-  -- a turn
-  pub again : (k : ℕ) (ns′ : List ℕ) (ps′ : List Point) (out′ : List (List ℕ)) → 3 < m → chooseOf (take m ps) dir ≡ At k
+  -- a step
+  pub again : (k : ℕ) (ns′ : List ℕ) (ps′ : List Point) (out′ : List (List ℕ)) → 3 < m → findCorner (take m ps) dir ≡ At k
       → ns′ ≡ removed k (take m ns) → ps′ ≡ removed k (take m ps) → out′ ≡ set out t (earOf k (take m ns))
       → length ns′ ≡ length (take m ns) → length ps′ ≡ length (take m ps) → length out′ ≡ length out
       → Going vs axis dir whole n out₀ (ns′ ++ drop m ns) (ps′ ++ drop m ps) out′ (m - 1) (t + 1)
@@ -146,7 +147,7 @@ module _ {vs : List Point} {axis : ℕ} {dir : Float} {whole : Cut} {n : ℕ} {o
       let b : k < m = omega (arith, choose-below (take m ps) dir k e) in
       let rn : take (m - 1) (ns′ ++ drop m ns) ≡ without k (take m ns) = rw en (take-removed k m ns b hn) in
       let rp : take (m - 1) (ps′ ++ drop m ps) ≡ without k (take m ps) = rw ep (take-removed k m ps b hp) in
-      let q = cut-some (choiceOf vs axis dir) m (take m ns) k h (chosen ∙ e) in
+      let q = cut-some (nextCornerOf vs axis dir) m (take m ns) k h (chosen ∙ e) in
       record {
         low = omega arith;
         high = omega (arith, g .high);

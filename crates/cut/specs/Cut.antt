@@ -12,7 +12,7 @@ use Rattle.places.specs.declared.Found.{Found}
 use Rattle.places.specs.declared.Found.the-variants.{At, Nothing}
 use Rattle.flat.specs.Points.{Point, cornersOf}
 use Rattle.flat.specs.Flat.{newellOf, axisOf, pointsOf}
-use Rattle.choice.specs.Choice.{directionOf, chooseOf}
+use Rattle.next_corner.specs.NextCorner.{directionOf, findCorner}
 
 pub record Cut : Type 0 where
   pub triangles : List (List ℕ)
@@ -45,12 +45,12 @@ cutRing choose (suc more) ring = cutWith (choose ring) ring (cutRing choose more
 
 -- ---- a face is cut: the plane and the direction are those of the whole face, and are kept while the ring shrinks
 -- the corner of the ring that is cut off, seen in that plane
-unfoldable pub choiceOf : List Point → ℕ → Float → List ℕ → Found
-choiceOf vs axis dir ring = chooseOf (pointsOf vs axis ring) dir
+unfoldable pub nextCornerOf : List Point → ℕ → Float → List ℕ → Found
+nextCornerOf vs axis dir ring = findCorner (pointsOf vs axis ring) dir
 
 -- the face cut in that plane, by its own direction
 unfoldable pub cutIn : List Point → ℕ → List ℕ → Cut
-cutIn vs axis face = cutRing (choiceOf vs axis (directionOf (pointsOf vs axis face))) (length face - 3) face
+cutIn vs axis face = cutRing (nextCornerOf vs axis (directionOf (pointsOf vs axis face))) (length face - 3) face
 
 -- the axis that a face is seen along, and its direction
 unfoldable pub axisFor : List Point → List ℕ → ℕ

@@ -1,2 +1,2 @@
 pub mod Cut
-pub mod Lent
+pub mod Steps

@@ -2,13 +2,15 @@
 ghost use mathlib.Core.Path.{_≡_};
 ghost use Prim.Native.Nat.{ℕ, _-_, _<_, _≤_};
 ghost use lib.ListN.{length, set};
-ghost use Rattle.places.specs.Lists.{removed};
+ghost use Rattle.places.specs.Limits.{mostCorners};
+ghost use Rattle.places.specs.Steps.{removed};
 ghost use Rattle.places.specs.Ring.{earOf};
-ghost use Rattle.flat.specs.Points.{verticesOf, Inside};
-ghost use Rattle.choice.specs.Choice.{chooseOf};
+ghost use Rattle.flat.specs.Points.{verticesOf};
+ghost use Rattle.flat.specs.Steps.{Inside};
+ghost use Rattle.next_corner.specs.NextCorner.{findCorner};
 ghost use Rattle.flat.specs.Flat.{pointsOf};
 ghost use Rattle.cut.specs.Cut.{cutIn, cutOf};
-ghost use Rattle.cut.specs.Lent.{Stepped, Shown};
+ghost use Rattle.cut.specs.Steps.{Stepped, Shown};
 
 // How many triangles a cut gave, and how many corners of the ring it left (none where it came to its end).
 pub struct Counts {
@@ -17,7 +19,7 @@ pub struct Counts {
 }
 
 // What stands at place k goes, and what comes after it moves one place left.
-pub fn remove_number(ns: &mut [u32], k: usize)
+fn remove_number(ns: &mut [u32], k: usize)
     requires { ⌜ k < length (now ns) ⌝ }
     ensures { λ _. ⌜ now (ns .exit) ≡ removed k (now (ns .entry)) ⌝ }
 {
@@ -29,7 +31,7 @@ pub fn remove_number(ns: &mut [u32], k: usize)
     }
 }
 
-pub fn remove_point(ps: &mut [[f64; 2]], k: usize)
+fn remove_point(ps: &mut [[f64; 2]], k: usize)
     requires { ⌜ k < length (now ps) ⌝ }
     ensures { λ _. ⌜ now (ps .exit) ≡ removed k (now (ps .entry)) ⌝ }
 {
@@ -42,7 +44,7 @@ pub fn remove_point(ps: &mut [[f64; 2]], k: usize)
 }
 
 // The triangle at place k of the ring is written to place t, and the corner goes from both lists.
-pub fn cut_at(ns: &mut [u32], ps: &mut [[f64; 2]], k: usize, out: &mut [[u32; 3]], t: usize)
+fn cut_at(ns: &mut [u32], ps: &mut [[f64; 2]], k: usize, out: &mut [[u32; 3]], t: usize)
     requires { ⌜ (k < length (now ns)) × (k < length (now ps)) × (t < length (now out)) ⌝ }
     ensures numbers { λ _. ⌜ now (ns .exit) ≡ removed k (now (ns .entry)) ⌝ }
     ensures points { λ _. ⌜ now (ps .exit) ≡ removed k (now (ps .entry)) ⌝ }
@@ -58,11 +60,11 @@ pub fn cut_at(ns: &mut [u32], ps: &mut [[f64; 2]], k: usize, out: &mut [[u32; 3]
 }
 
 // One cut, if there is a corner to cut.
-pub fn step(ns: &mut [u32], ps: &mut [[f64; 2]], dir: f64, out: &mut [[u32; 3]], t: usize) -> bool
+fn step(ns: &mut [u32], ps: &mut [[f64; 2]], dir: f64, out: &mut [[u32; 3]], t: usize) -> bool
     requires { ⌜ (length (now ns) ≡ length (now ps)) × (t < length (now out)) ⌝ }
-    ensures { λ r. ⌜ Stepped (chooseOf (now (ps .entry)) dir) (now (ns .entry)) (now (ps .entry)) (now (out .entry)) t r (now (ns .exit)) (now (ps .exit)) (now (out .exit)) ⌝ }
+    ensures { λ r. ⌜ Stepped (findCorner (now (ps .entry)) dir) (now (ns .entry)) (now (ps .entry)) (now (out .entry)) t r (now (ns .exit)) (now (ps .exit)) (now (out .exit)) ⌝ }
 {
-    let f = choice::choose(ps, dir);
+    let f = next_corner::find_corner(ps, dir);
     match f {
         places::Found::Nothing => false,
         places::Found::At(k) => {
@@ -73,7 +75,7 @@ pub fn step(ns: &mut [u32], ps: &mut [[f64; 2]], dir: f64, out: &mut [[u32; 3]],
 }
 
 // The numbers of a face, and the points of a ring's corners, are laid down in lists of their own.
-pub fn fill_numbers(face: &[u32], ns: &mut [u32])
+fn fill_numbers(face: &[u32], ns: &mut [u32])
     requires { ⌜ length (now ns) ≡ length (now face) ⌝ }
     ensures { λ _. ⌜ now (ns .exit) ≡ now (face .entry) ⌝ }
 {
@@ -85,7 +87,7 @@ pub fn fill_numbers(face: &[u32], ns: &mut [u32])
     }
 }
 
-pub fn fill_points(coords: &[f64], ring: &[u32], axis: usize, ps: &mut [[f64; 2]])
+fn fill_points(coords: &[f64], ring: &[u32], axis: usize, ps: &mut [[f64; 2]])
     requires { ⌜ Inside (verticesOf (now coords)) (now ring) ⌝ }
     requires { ⌜ length (now ps) ≡ length (now ring) ⌝ }
     ensures { λ _. ⌜ now (ps .exit) ≡ pointsOf (verticesOf (now (coords .entry))) axis (now (ring .entry)) ⌝ }
@@ -112,7 +114,7 @@ fn cut_ring(
     ensures { λ r. ⌜ Shown (cutIn (verticesOf (now (coords .entry))) axis (now (ns .entry))) r (now (out .entry)) (now (out .exit)) ⌝ }
 {
     fill_points(coords, ns, axis, ps);
-    let dir = choice::direction(ps);
+    let dir = next_corner::direction(ps);
     let mut m = ns.len();
     let mut t = 0;
     while m > 3 {
@@ -154,7 +156,7 @@ fn cut_in(
 // A face is cut: its triangles are written to the front of out. The answer says how many, and how many corners are left if the cutting stopped short.
 pub fn cut(coords: &[f64], face: &[u32], out: &mut [[u32; 3]]) -> Counts
     requires { ⌜ Inside (verticesOf (now coords)) (now face) ⌝ }
-    requires { ⌜ (length (now face) ≤ 2048) × (length (now face) - 2 ≤ length (now out)) ⌝ }
+    requires { ⌜ (length (now face) ≤ mostCorners) × (length (now face) - 2 ≤ length (now out)) ⌝ }
     ensures { λ r. ⌜ Shown (cutOf (verticesOf (now (coords .entry))) (now (face .entry))) r (now (out .entry)) (now (out .exit)) ⌝ }
 {
     let n = face.len();
@@ -174,7 +176,7 @@ pub fn cut(coords: &[f64], face: &[u32], out: &mut [[u32; 3]]) -> Counts
         let mut ps = [[0.0f64; 2]; 128];
         return cut_in(coords, face, &mut ns[..n], &mut ps[..n], out);
     }
-    let mut ns = [0u32; 2048];
-    let mut ps = [[0.0f64; 2]; 2048];
+    let mut ns = [0u32; places::limits::MOST_CORNERS];
+    let mut ps = [[0.0f64; 2]; places::limits::MOST_CORNERS];
     cut_in(coords, face, &mut ns[..n], &mut ps[..n], out)
 }

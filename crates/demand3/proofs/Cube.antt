@@ -16,7 +16,7 @@ use Rattle.cell.specs.Faces.{facesOf}
 use Rattle.volume.specs.Triangles.{trianglesOf, isShort, shortOf}
 use Rattle.volume.specs.Volume.{tripleOf, tripleAbout, sumAbout, v6Of, volumeOf}
 use Rattle.demand3.specs.Demand3.{exactPoint, placeOf, StaysBalanced, SameSum}
-use Rattle.demand3.specs.Cube.{cube, hexCorners, hexEnds, turnedCorners, others, tornEnds}
+use Rattle.demand3.specs.Cube.{cube, hexCorners, hexEnds, backwardCorners, otherFaces, tornEnds}
 use Rattle.demand3.proofs.Reported.{reported}
 
 -- every definition on the way to an exact sum or a volume: 'unfolding computed' opens them all
@@ -63,24 +63,24 @@ unfolding computed
 hex-volume = refl
 
 -- ---- with the first face turned round: not closed, and another volume, though every face is fully cut
-abbrev turned : List (List ℕ)
-turned = facesOf turnedCorners hexEnds
+abbrev backward : List (List ℕ)
+backward = facesOf backwardCorners hexEnds
 
-pub turned-open : closedOf turned ≡ false
+pub backward-open : closedOf backward ≡ false
 unfolding computed
-turned-open = refl
+backward-open = refl
 
-pub turned-short : shortOf vertices turned ≡ 0
+pub backward-short : shortOf vertices backward ≡ 0
 unfolding computed
-turned-short = refl
+backward-short = refl
 
-pub turned-volume : volumeOf vertices turned ≡ ofBits binary64 0x3fe5_5555_5555_5555
+pub backward-volume : volumeOf vertices backward ≡ ofBits binary64 0x3fe5_5555_5555_5555
 unfolding computed
-turned-volume = refl
+backward-volume = refl
 
 -- ---- without that face: not closed, and the exact sums about (0, 0, 0) and about (0, 0, 1) differ
 abbrev torn : List (List ℕ)
-torn = facesOf others tornEnds
+torn = facesOf otherFaces tornEnds
 
 pub torn-open : closedOf torn ≡ false
 unfolding computed

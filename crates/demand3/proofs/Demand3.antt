@@ -22,7 +22,8 @@ use Rattle.cut.specs.Cut.{cutOf}
 use Rattle.cut.proofs.Facts.{Ends, few, full, short, choice, cut-ends, cut-threes, cut-keeps, cut-alike, stuck-turns}
 use Rattle.cell.specs.Faces.{facesOf}
 use Rattle.volume.specs.Triangles.{trianglesOf, leftsOf}
-use Rattle.demand3.specs.Demand3.{placeOf, Stuck, Full, Gives, Premises, StaysBalanced, SameSum, Demand3, MadeUp, ClosedWithRings}
+use Rattle.demand3.specs.Demand3.{placeOf, Stuck, Full, Gives, Premises, StaysBalanced, SameSum, Sums, Demand3, MadeUp}
+use Rattle.demand3.specs.Demand3.{ClosedWithRings}
 
 -- ---- of one face
 none-of : (ts : List (List ℕ)) → length ts ≤ 0 → ts ≡ []
@@ -128,13 +129,14 @@ module _ (vs : List Point) where
   pub same-sum : (fs : List (List ℕ)) → Premises vs fs → SameSum vs fs
   same-sum fs h = same-about (placeOf vs) (trianglesOf vs fs) (threes fs) (stays-balanced fs h)
 
+  pub sums : (fs : List (List ℕ)) → Premises vs fs → Sums vs fs
+  sums fs h = record { balanced = stays-balanced fs h; sum = same-sum fs h; sum-f64 = λ p q. same-sum fs h _ _ }
+
   pub closed-with-rings : (fs : List (List ℕ)) → ClosedWithRings vs fs
   closed-with-rings fs = alike-closed (trianglesOf vs fs ++ leftsOf vs fs) fs (cell-alike fs)
 
 pub demand3 : (coords : List Float) (corners ends : List ℕ) → Demand3 coords corners ends
 demand3 coords corners ends = record {
   sentence1 = gives (verticesOf coords);
-  sentence2 = stays-balanced (verticesOf coords) (facesOf corners ends);
-  sentence3 = same-sum (verticesOf coords) (facesOf corners ends);
-  sentence3-f64 = λ h p q. same-sum (verticesOf coords) (facesOf corners ends) h _ _;
+  sentence2 = sums (verticesOf coords) (facesOf corners ends);
 }

@@ -7,7 +7,7 @@ use lib.Dec.{T}
 use lib.IntN.{ℤ, pos, negℤ, natAbs, _*ℤ_, zero-*ℤ, pos-*ℤ-pos, negsuc-*ℤ-pos}
 use lib.Ieee.{Float, nan, inf, fin, Format, binary64, low, fits}
 use lib.Ieee.Exact.{HasValue}
-use Rattle.exact.specs.Scaled.{units, exactIn, exactOf}
+use Rattle.exact.specs.Scaled.{wholeUnits, exactIn, exactOf}
 use Rattle.exact.proofs.Scaled.{exact-size}
 use Rattle.demand3.specs.Demand3.{Exact}
 
@@ -32,8 +32,9 @@ module _ (f : Format) where
   value nan s a c t h = absurd h
   value (inf b) s a c t h = absurd h
   value (fin b m e) s a c t h =
-      let n : units f m e * c ≡ a * 2 ^ low f = sym (ap (λ k. k * c) (size-of b (units f m e))) ∙ exact-size f (fin b m e) s a c t h in
-      signed-times b (units f m e) c ∙ ap (signed b) n ∙ ap (λ r. signed r (a * 2 ^ low f)) (h .0)
+      let n : wholeUnits f m e * c ≡ a * 2 ^ low f =
+      sym (ap (λ k. k * c) (size-of b (wholeUnits f m e))) ∙ exact-size f (fin b m e) s a c t h in
+      signed-times b (wholeUnits f m e) c ∙ ap (signed b) n ∙ ap (λ r. signed r (a * 2 ^ low f)) (h .0)
 
 pub exact : Exact
 unfolding exactOf

@@ -3,4 +3,5 @@ pub mod Reported
 pub mod Exact
 pub mod Cube
 pub mod Refused
-pub mod Turned
+pub mod TurnFaces
+pub mod Turns

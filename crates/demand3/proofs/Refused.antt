@@ -12,14 +12,14 @@ use lib.Ieee.{Float}
 use Rattle.places.specs.Loops.{pick, anyOf}
 use Rattle.exact.specs.Facing.{unfit, choices, choiceOf, closesBy, unclosable}
 use Rattle.exact.proofs.Conditions.{unfit-is, unfit-not, unclosable-is, closable}
-use Rattle.exact.proofs.Test.{closed-is}
+use Rattle.exact.proofs.Test.{closed-test}
 use Rattle.flat.specs.Points.{verticesOf}
 use Rattle.cell.specs.Faces.{facesOf}
 use Rattle.cell.specs.Refusals.{firstRow, sizeRefused, numberRefused, endsRefused, indexRefused, refusalOf}
-use Rattle.facing.specs.Refused.{unturnable}
-use Rattle.refusals.specs.Refusals.{orElse, cellRefusal, turnRefusal}
+use Rattle.facing.specs.Refused.{reversalRefusal}
+use Rattle.refusals.specs.Refusals.{firstRefusal, cellRefusal, turnFacesRefusal}
 use Rattle.refusals.proofs.Refusals.{or-found}
-use Rattle.demand3.specs.Turned.{Closing, Refuses}
+use Rattle.demand3.specs.TurnFaces.{Closing, Refuses}
 
 -- ---- the rows of a cell
 four-rows : (a b c d : Bool) → pick a 1 (pick b 2 (pick c 3 (pick d 4 0))) ≤ 4
@@ -49,8 +49,8 @@ row-0 false true = (λ e. absurd (omega arith), λ p. absurd (false≢true (sym 
 row-0 false false = (λ e. (refl, refl), λ p. refl)
 
 -- a number that the first does not give is given by the second, where the first gives none
-second : (first rest w : ℕ) → (first ≢ 0 → first ≢ w) → (orElse first rest ≡ w) ↔ ((first ≡ 0) × (rest ≡ w))
-unfolding orElse
+second : (first rest w : ℕ) → (first ≢ 0 → first ≢ w) → (firstRefusal first rest ≡ w) ↔ ((first ≡ 0) × (rest ≡ w))
+unfolding firstRefusal
 second first rest w n = (go (eqb first 0) refl, λ p. rw (eq-eqb first 0 (p .0)) (p .1))
   where
     go : (b : Bool) → eqb first 0 ≡ b → pick b rest first ≡ w → (first ≡ 0) × (rest ≡ w)
@@ -80,7 +80,7 @@ closing fs = (
 )
   where
     found : Hit (closesBy fs) → Closing fs
-    found h = record { choice = choiceOf (h .it); closes = closed-is _ .0 (rw (h .so) tt) }
+    found h = record { choice = choiceOf (h .it); closes = closed-test _ .0 (h .so) }
 
 -- ---- the cell
 module _ (coords : List Float) (corners ends : List ℕ) where
@@ -94,20 +94,21 @@ module _ (coords : List Float) (corners ends : List ℕ) where
   fs = facesOf corners ends
 
   told : (w : ℕ) → (cellRefusal coords corners ends ≢ 0 → cellRefusal coords corners ends ≢ w)
-      → (turnRefusal coords corners ends ≡ w)
+      → (turnFacesRefusal coords corners ends ≡ w)
       ↔ ((cellRefusal coords corners ends ≡ 0) × (rowsOf (unfit fs) (unclosable fs) ≡ w))
-  unfolding turnRefusal unturnable firstRow
-  told w n = second (cellRefusal coords corners ends) (unturnable fs) w n
+  unfolding turnFacesRefusal reversalRefusal firstRow
+  told w n = second (cellRefusal coords corners ends) (reversalRefusal fs) w n
 
   -- the cell passes, and the rest is as the rows say
   passes : {w : ℕ} {A : Type 0} → (cellRefusal coords corners ends ≢ 0 → cellRefusal coords corners ends ≢ w)
-      → ((rowsOf (unfit fs) (unclosable fs) ≡ w) ↔ A) → (turnRefusal coords corners ends ≡ w) ↔ ((cellRefusal coords corners ends ≡ 0) × A)
+      → ((rowsOf (unfit fs) (unclosable fs) ≡ w) ↔ A)
+      → (turnFacesRefusal coords corners ends ≡ w) ↔ ((cellRefusal coords corners ends ≡ 0) × A)
   passes {w} n i = Iff·trans (told w n) (Iff·and Iff·rfl i)
 
   -- a refusal of the cell decides
-  decides : cellRefusal coords corners ends ≢ 0 → turnRefusal coords corners ends ≡ cellRefusal coords corners ends
-  unfolding turnRefusal
-  decides n = sym (or-found (unturnable fs) refl n)
+  decides : cellRefusal coords corners ends ≢ 0 → turnFacesRefusal coords corners ends ≡ cellRefusal coords corners ends
+  unfolding turnFacesRefusal
+  decides n = sym (or-found (reversalRefusal fs) refl n)
 
   pub refuses : Refuses coords corners ends
   refuses =

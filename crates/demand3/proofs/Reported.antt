@@ -7,12 +7,11 @@ use native.Mathlib.Omega.{arith}
 use borrow.Author.Tests.{ltb-false, leb-true, le-ltb, le-leb}
 use lib.Dec.{leb, ltb}
 use lib.ListN.{length}
-use lib.Ieee.Bits.{is-true}
 use Rattle.places.specs.Loops.{countOf}
 use Rattle.places.specs.Lists.{Each}
 use Rattle.places.proofs.Lists.{each-nil, each-cons, each-head, each-tail}
 use Rattle.exact.specs.Sides.{closedOf}
-use Rattle.exact.proofs.Test.{closed-is}
+use Rattle.exact.proofs.Test.{closed-test}
 use Rattle.flat.specs.Points.{Point}
 use Rattle.cut.specs.Cut.{cutOf}
 use Rattle.cut.proofs.Facts.{cut-room}
@@ -50,12 +49,12 @@ module _ (vs : List Point) where
   all-full (f ∷ fs) e = rw (full-not f (each-head e)) (omega (arith, all-full fs (each-tail e)))
 
   premises : (fs : List (List ℕ)) → closedOf fs ≡ true → shortOf vs fs ≡ 0 → Premises vs fs
-  premises fs c s = record { full = none-short fs s; balanced = closed-is fs .0 (rw c tt) }
+  premises fs c s = record { full = none-short fs s; balanced = closed-test fs .0 c }
 
   pub reported : (fs : List (List ℕ)) → Reported vs fs
   reported fs = record {
     short = (none-short fs, all-full fs);
-    closed = (λ c. closed-is fs .0 (rw c tt), λ h. is-true (closedOf fs) (closed-is fs .1 h));
+    closed = closed-test fs;
     triangles = λ c s. stays-balanced vs fs (premises fs c s);
     sum = λ c s. same-sum vs fs (premises fs c s);
   }

@@ -14,19 +14,19 @@ cube =
 abbrev pub bottom : List ℕ
 bottom = 0 ∷ 3 ∷ 2 ∷ 1 ∷ []
 
-abbrev pub others : List ℕ
-others = 4 ∷ 5 ∷ 6 ∷ 7 ∷ 0 ∷ 1 ∷ 5 ∷ 4 ∷ 2 ∷ 3 ∷ 7 ∷ 6 ∷ 1 ∷ 2 ∷ 6 ∷ 5 ∷ 3 ∷ 0 ∷ 4 ∷ 7 ∷ []
+abbrev pub otherFaces : List ℕ
+otherFaces = 4 ∷ 5 ∷ 6 ∷ 7 ∷ 0 ∷ 1 ∷ 5 ∷ 4 ∷ 2 ∷ 3 ∷ 7 ∷ 6 ∷ 1 ∷ 2 ∷ 6 ∷ 5 ∷ 3 ∷ 0 ∷ 4 ∷ 7 ∷ []
 
 -- as a cell's corners and ends
 abbrev pub hexCorners : List ℕ
-hexCorners = bottom ++ others
+hexCorners = bottom ++ otherFaces
 
 abbrev pub hexEnds : List ℕ
 hexEnds = 4 ∷ 8 ∷ 12 ∷ 16 ∷ 20 ∷ 24 ∷ []
 
 -- with the face [0,3,2,1] stored as [1,2,3,0]
-abbrev pub turnedCorners : List ℕ
-turnedCorners = 1 ∷ 2 ∷ 3 ∷ 0 ∷ others
+abbrev pub backwardCorners : List ℕ
+backwardCorners = 1 ∷ 2 ∷ 3 ∷ 0 ∷ otherFaces
 
 -- and torn: without that face
 abbrev pub tornEnds : List ℕ

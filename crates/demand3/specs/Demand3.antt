@@ -1,7 +1,7 @@
--- Demand 3: its three sentences in the customer's words and order, then the same as the cell report tells it, and what later requests use.
+-- Demand 3: its two sentences in the customer's words and order, then the same as the cell report tells it, and what later requests use.
 -- It holds of every cell, whatever its lists are, and speaks of the one cut that the contracts of `cut` and `volume` cite.
 use mathlib.Core.Path.{_≡_}
-use mathlib.Core.Logic.{_↔_, _≢_}
+use mathlib.Core.Logic.{_↔_}
 use mathlib.Core.Bool.{Bool, true, false, cond}
 use mathlib.Core.List.{List, [], _∷_, _++_}
 use Prim.Native.Nat.{ℕ, _+_, _*_, _^_, _<_, _≤_}
@@ -12,11 +12,11 @@ use lib.Ieee.{Float, binary64, fits}
 use lib.Ieee.Exact.{HasValue}
 use Rattle.places.specs.Lists.{Each}
 use Rattle.exact.specs.Scaled.{exactOf}
-use Rattle.exact.specs.Sides.{runs, closedOf}
+use Rattle.exact.specs.Sides.{runs, Closed, closedOf}
 use Rattle.exact.specs.Space.{V3, plus, area, triples}
 use Rattle.flat.specs.Points.{Point, at, verticesOf, vertexOf}
 use Rattle.flat.specs.Flat.{pointsOf}
-use Rattle.choice.specs.Choice.{turnsAt}
+use Rattle.next_corner.specs.NextCorner.{turnsAt}
 use Rattle.cut.specs.Cut.{axisFor, directionFor, cutOf}
 use Rattle.cell.specs.Faces.{facesOf}
 use Rattle.volume.specs.Triangles.{trianglesOf, leftsOf, shortOf}
@@ -54,16 +54,16 @@ pub record Gives (vs : List Point) (face : List ℕ) : Type 0 where
   -- nothing under 3 corners
   pub nothing : length face < 3 → pieces vs face ≡ []
 
--- the premises of the second and the third sentence
+-- the premises of the second sentence
 pub record Premises (vs : List Point) (fs : List (List ℕ)) : Type 0 where
   -- every face of 3 or more corners gives its full n − 2
   pub full : Each [] (Full vs) fs
   -- for all vertex numbers i ≠ j the faces run i to j as often as j to i
-  pub balanced : (i j : ℕ) → i ≢ j → runs i j fs ≡ runs j i fs
+  pub balanced : Closed fs
 
 -- so do the triangles: those that `volume` sums
 abbrev pub StaysBalanced : List Point → List (List ℕ) → Type 0
-StaysBalanced vs fs = (i j : ℕ) → i ≢ j → runs i j (trianglesOf vs fs) ≡ runs j i (trianglesOf vs fs)
+StaysBalanced vs fs = Closed (trianglesOf vs fs)
 
 -- the exact sum of their triple products is the same about every point of whole numbers
 abbrev pub SameSum : List Point → List (List ℕ) → Type 0
@@ -71,7 +71,16 @@ SameSum vs fs = (p q : V3) → triples (placeOf vs) p (trianglesOf vs fs) ≡ tr
 
 -- and so about every point of finite f64 coordinates; one that is not finite is taken for 0
 abbrev pub SameSumF64 : List Point → List (List ℕ) → Type 0
-SameSumF64 vs fs = (p q : Point) → triples (placeOf vs) (exactPoint p) (trianglesOf vs fs) ≡ triples (placeOf vs) (exactPoint q) (trianglesOf vs fs)
+SameSumF64 vs fs =
+    (p q : Point) → triples (placeOf vs) (exactPoint p) (trianglesOf vs fs) ≡ triples (placeOf vs) (exactPoint q) (trianglesOf vs fs)
+
+-- both conclusions of the second sentence
+pub record Sums (vs : List Point) (fs : List (List ℕ)) : Type 0 where
+  -- for all vertex numbers i ≠ j the triangles run i to j as often as j to i
+  pub balanced : StaysBalanced vs fs
+  -- the exact sum of their triple products is the same about every point, of whole numbers and of finite f64 coordinates
+  pub sum : SameSum vs fs
+  pub sum-f64 : SameSumF64 vs fs
 
 -- ---- demand 3, of the cell with these coordinates, corners and face ends
 pub record Demand3 (coords : List Float) (corners ends : List ℕ) : Type 0 where
@@ -79,17 +88,15 @@ pub record Demand3 (coords : List Float) (corners ends : List ℕ) : Type 0 wher
   -- times the direction of the whole face's first ring, is at least 0.
   pub sentence1 : (face : List ℕ) → Gives (verticesOf coords) face
   -- 2. If every face of 3 or more corners gives its full n − 2, and for all vertex numbers i ≠ j the faces run i to j as often as j to i,
-  -- then so do the triangles,
-  pub sentence2 : Premises (verticesOf coords) (facesOf corners ends) → StaysBalanced (verticesOf coords) (facesOf corners ends)
-  -- 3. and the exact, unrounded sum of their triple products is the same about every reference point of finite f64 coordinates.
-  pub sentence3 : Premises (verticesOf coords) (facesOf corners ends) → SameSum (verticesOf coords) (facesOf corners ends)
-  pub sentence3-f64 : Premises (verticesOf coords) (facesOf corners ends) → SameSumF64 (verticesOf coords) (facesOf corners ends)
+  -- then so do the triangles, and the exact, unrounded sum of their triple products is the same about every reference point of finite
+  -- f64 coordinates.
+  pub sentence2 : Premises (verticesOf coords) (facesOf corners ends) → Sums (verticesOf coords) (facesOf corners ends)
 
 -- ---- the same as the report tells it
 pub record Reported (vs : List Point) (fs : List (List ℕ)) : Type 0 where
   -- `short 0` says that every face of 3 or more corners gives its full n − 2, and `closed yes` that the faces are balanced
   pub short : (shortOf vs fs ≡ 0) ↔ Each [] (Full vs) fs
-  pub closed : (closedOf fs ≡ true) ↔ ((i j : ℕ) → i ≢ j → runs i j fs ≡ runs j i fs)
+  pub closed : (closedOf fs ≡ true) ↔ Closed fs
   -- so for a cell reported with both, the triangles are balanced, and their exact sum is the same about every reference point
   pub triangles : closedOf fs ≡ true → shortOf vs fs ≡ 0 → StaysBalanced vs fs
   pub sum : closedOf fs ≡ true → shortOf vs fs ≡ 0 → SameSum vs fs
@@ -111,6 +118,4 @@ pub record MadeUp (vs : List Point) (face : List ℕ) : Type 0 where
 
 -- the triangles of any closed cell are closed with the rings that remain, fully cut or not
 abbrev pub ClosedWithRings : List Point → List (List ℕ) → Type 0
-ClosedWithRings vs fs =
-    ((i j : ℕ) → i ≢ j → runs i j fs ≡ runs j i fs)
-    → (i j : ℕ) → i ≢ j → runs i j (trianglesOf vs fs ++ leftsOf vs fs) ≡ runs j i (trianglesOf vs fs ++ leftsOf vs fs)
+ClosedWithRings vs fs = Closed fs → Closed (trianglesOf vs fs ++ leftsOf vs fs)

@@ -1,3 +1,4 @@
 pub mod Demand3
 pub mod Cube
-pub mod Turned
+pub mod TurnFaces
+pub mod Turns

@@ -8,7 +8,7 @@ use Prim.Native.Nat.{ℕ, zero, suc, _<_}
 use native.Mathlib.Decide.{ℕ-discrete, decLt}
 use native.Mathlib.Omega.{arith}
 use lib.Dec.{eqb, not-T}
-use lib.Ieee.Bits.{is-false}
+use lib.Ieee.Bits.{is-true, is-false}
 use lib.ListN.{length, getD, List·getD-eq-default}
 use borrow.Author.Tests.{eqb-true, eqb-false, eq-eqb, ne-eqb, not-true, not-false}
 use Rattle.places.specs.Loops.{pick, anyOf}
@@ -19,7 +19,7 @@ use Rattle.exact.specs.Facing.{reversedBy, occurs, Twice, Single, Fit}
 use Rattle.exact.specs.Facing.{strange, doubled, unfit, choices, choiceOf, closesBy, unclosable}
 use Rattle.exact.proofs.Balance.{hits-eq}
 use Rattle.exact.proofs.Reversed.{same-faces}
-use Rattle.exact.proofs.Test.{closed-is}
+use Rattle.exact.proofs.Test.{closed-test}
 
 -- ---- yes and no
 or-is : (a b : Bool) → ((a || b) ≡ false) ↔ ((a ≡ false) × (b ≡ false))
@@ -172,13 +172,15 @@ unclosable-is fs = (
 )
   where
     open-by : ((choice : ℕ → Bool) → Closed (reversedBy choice fs) → ⊥) → (c : List Bool) → closesBy fs c ≡ false
-    open-by n c = is-false (closesBy fs c) (not-T (closesBy fs c) (λ t. n (choiceOf c) (closed-is (reversedBy (choiceOf c) fs) .0 t)))
+    open-by n c =
+        is-false (closesBy fs c)
+        (not-T (closesBy fs c) (λ t. n (choiceOf c) (closed-test (reversedBy (choiceOf c) fs) .0 (is-true (closesBy fs c) t))))
 
     no-choice : unclosable fs ≡ true → (choice : ℕ → Bool) → Closed (reversedBy choice fs) → ⊥
     no-choice e choice h =
         let q = tried (closesBy fs) (length fs) choice (not-true (anyOf (closesBy fs) (choices (length fs))) e) in
         let r = rw (same-faces fs (choiceOf (listed (length fs) choice)) choice (listed-at (length fs) choice)) at q in
-        rw r at (closed-is (reversedBy choice fs) .1 h)
+        true≢false (sym (closed-test (reversedBy choice fs) .1 h) ∙ r)
 
 -- a choice that closes shows that there is one
 pub closable : (fs : List (List ℕ)) (choice : ℕ → Bool) → Closed (reversedBy choice fs) → unclosable fs ≡ false

@@ -27,18 +27,18 @@ last-at d [] = refl
 last-at d (e ∷ r) = last-at e r
 
 -- ---- the corners beside a place, found in the ring turned so that the place comes first
-turned : ℕ → List ℕ → List ℕ
-turned n r = drop (suc n) r ++ take n r
+rotated : ℕ → List ℕ → List ℕ
+rotated n r = drop (suc n) r ++ take n r
 
-length-turned : (n : ℕ) (r : List ℕ) → n < length r → length (turned n r) ≡ length r - 1
-unfolding turned
-length-turned n r h = simp (length-append, length-take, length-drop) (omega arith)
+length-rotated : (n : ℕ) (r : List ℕ) → n < length r → length (rotated n r) ≡ length r - 1
+unfolding rotated
+length-rotated n r h = simp (length-append, length-take, length-drop) (omega arith)
 
 place : (r : List ℕ) {i j : ℕ} → i ≡ j → getD r i 0 ≡ getD r j 0
 place r e = ap (λ x. getD r x 0) e
 
-after-is : (n : ℕ) (r : List ℕ) → n < length r → 2 ≤ length r → getD r (nextOf n (length r)) 0 ≡ getD (turned n r) 0 0
-unfolding turned nextOf
+after-is : (n : ℕ) (r : List ℕ) → n < length r → 2 ≤ length r → getD r (nextOf n (length r)) 0 ≡ getD (rotated n r) 0 0
+unfolding rotated nextOf
 after-is n r h g = go (ltb (n + 1) (length r)) refl
   where
     go : (b : Bool) → ltb (n + 1) (length r) ≡ b → getD r (pick b (n + 1) 0) 0 ≡ getD (drop (suc n) r ++ take n r) 0 0
@@ -51,8 +51,8 @@ after-is n r h g = go (ltb (n + 1) (length r)) refl
         let q : 0 < n = omega arith in
         rw (drop-of-length-le r o, getD-take n r 0 0 q)
 
-before-is : (n : ℕ) (r : List ℕ) → n < length r → 2 ≤ length r → getD r (prevOf n (length r)) 0 ≡ getD (turned n r) (length r - 2) 0
-unfolding turned prevOf
+before-is : (n : ℕ) (r : List ℕ) → n < length r → 2 ≤ length r → getD r (prevOf n (length r)) 0 ≡ getD (rotated n r) (length r - 2) 0
+unfolding rotated prevOf
 before-is zero r h g = rw (append-nil, getD-drop) (place r (omega arith))
 before-is (suc n) r h g =
     let o : n < suc n = omega arith in
@@ -73,10 +73,10 @@ module _ (w : ℕ → ℕ → ℤ) where
   walk-append a (c ∷ l) b m z = rw (walk-append c l b m z, +ℤ-assoc (w a c))
 
   -- a ring may start at any of its corners
-  turn : (l m : List ℕ) → sum w (sides (l ++ m)) ≡ sum w (sides (m ++ l))
-  turn [] m = rw append-nil
-  turn (a ∷ l) [] = ap (λ x. sum w (sides (a ∷ x))) (append-nil l)
-  turn (a ∷ l) (b ∷ m) = walk-append a l b m a ∙ +ℤ-comm (sum w (walk a l b)) (sum w (walk b m a)) ∙ sym (walk-append b m a l b)
+  sum-rotated : (l m : List ℕ) → sum w (sides (l ++ m)) ≡ sum w (sides (m ++ l))
+  sum-rotated [] m = rw append-nil
+  sum-rotated (a ∷ l) [] = ap (λ x. sum w (sides (a ∷ x))) (append-nil l)
+  sum-rotated (a ∷ l) (b ∷ m) = walk-append a l b m a ∙ +ℤ-comm (sum w (walk a l b)) (sum w (walk b m a)) ∙ sym (walk-append b m a l b)
 
 regroup : (x y z o : ℤ) → (x +ℤ (y +ℤ (negℤ z +ℤ pos 0))) +ℤ (o +ℤ z) ≡ y +ℤ (o +ℤ x)
 regroup x y z o = ring (x ∷ y ∷ z ∷ o ∷ []) ((var 0 ⊕ (var 1 ⊕ (⊖ (var 2) ⊕ con (pos 0)))) ⊕ (var 3 ⊕ var 2)) (var 1 ⊕ (var 3 ⊕ var 0)) tt
@@ -92,9 +92,9 @@ module _ (w : ℕ → ℕ → ℤ) (anti : Anti w) where
 
   -- the triangle at place n and the ring without n have together the sum of the ring
   pub cut-one : (n : ℕ) (r : List ℕ) → n < length r → 2 ≤ length r → sum w (sides (earOf n r)) +ℤ sum w (sides (without n r)) ≡ sum w (sides r)
-  unfolding turned earOf
+  unfolding rotated earOf
   cut-one n r h g =
-      let e : length r - 2 ≡ length (turned n r) - 1 = omega (arith, length-turned n r h) in
-      let o : 1 ≤ length (turned n r) = omega (arith, length-turned n r h) in
-      rw (without-is n r, before-is n r h g ∙ place (turned n r) e, after-is n r h g, turn w (take n r) (drop (suc n) r))
-      (around (getD r n 0) (turned n r) o ∙ sym (turn w (take n r) (getD r n 0 ∷ drop (suc n) r)) ∙ sym (ap (λ x. sum w (sides x)) (split-at r n 0 h)))
+      let e : length r - 2 ≡ length (rotated n r) - 1 = omega (arith, length-rotated n r h) in
+      let o : 1 ≤ length (rotated n r) = omega (arith, length-rotated n r h) in
+      rw (without-is n r, before-is n r h g ∙ place (rotated n r) e, after-is n r h g, sum-rotated w (take n r) (drop (suc n) r))
+      (around (getD r n 0) (rotated n r) o ∙ sym (sum-rotated w (take n r) (getD r n 0 ∷ drop (suc n) r)) ∙ sym (ap (λ x. sum w (sides x)) (split-at r n 0 h)))

@@ -80,8 +80,8 @@ pub record Made (fs : List (List ℕ)) (choice : ℕ → Bool) : Type 0 where
 -- ---- 'The corner list changes only in the reversed stretches'; refusals 'leave the corner list unchanged'.
 
 -- what stands in the corner list before and after; `why` is the number of the refusal, 0 for none, and then the choice is the one made.
--- The answer is in geometry/specs/Turned.antt: how many faces the choice reverses, or the refusal.
-pub record Turned (why : ℕ) (fs : List (List ℕ)) (choice : ℕ → Bool) (before after : List ℕ) : Type 0 where
+-- The answer is in geometry/specs/TurnFaces.antt: how many faces the choice reverses, or the refusal.
+pub record Reversed (why : ℕ) (fs : List (List ℕ)) (choice : ℕ → Bool) (before after : List ℕ) : Type 0 where
   pub made : why ≡ 0 → Made fs choice
   -- the faces by the choice, one after the other; on every refusal what stood there before
   pub list : after ≡ pick (eqb why 0) (joined (reversedBy choice fs)) before

@@ -1,6 +1,6 @@
 -- The sides of faces, and when faces are closed. A face is the list of its corners' vertex numbers; so is a triangle.
 use mathlib.Core.Path.{_≡_}
-use mathlib.Core.Logic.{_≢_}
+use mathlib.Core.Logic.{_↔_, _≢_}
 use mathlib.Core.Bool.{Bool, true, false, _&&_}
 use mathlib.Core.List.{List, [], _∷_, _++_}
 use Prim.Native.Nat.{ℕ, _+_}
@@ -32,7 +32,7 @@ runs i j fs = count i j (allSides fs)
 abbrev pub Closed : List (List ℕ) → Type 0
 Closed fs = (i j : ℕ) → i ≢ j → runs i j fs ≡ runs j i fs
 
--- the same as a test: it looks only at the sides that occur (proofs/Test.antt: it answers yes exactly where the faces are closed)
+-- the same as a test: it looks only at the sides that occur
 abbrev pub everySide : (ℕ → ℕ → Bool) → List (ℕ × ℕ) → Bool
 everySide p [] = true
 everySide p (e ∷ l) = p (e .0) (e .1) && everySide p l
@@ -44,3 +44,7 @@ unfoldable pub closedOf : List (List ℕ) → Bool
 closedOf fs =
     let l = allSides fs in
     everySide (even l) l
+
+-- the test answers yes exactly where the faces are closed: for all vertex numbers i ≠ j, not only for the sides that occur
+abbrev pub ClosedTest : Type 0
+ClosedTest = (fs : List (List ℕ)) → (closedOf fs ≡ true) ↔ Closed fs

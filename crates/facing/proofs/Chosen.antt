@@ -12,10 +12,10 @@ use Rattle.exact.specs.Facing.{reversedBy, unfit}
 use Rattle.exact.proofs.Conditions.{unfit-is, unclosable-is, closable}
 use Rattle.cell.specs.Faces.{facesOf}
 use Rattle.cell.specs.Refusals.{firstRow}
-use Rattle.skin.specs.Table.{Blank}
-use Rattle.skin.specs.Numbers.{Known, Numbered, entryOf}
-use Rattle.mates.specs.Marks.{Mates}
-use Rattle.facing.specs.Refused.{unturnable}
+use Rattle.side_table.specs.Table.{Blank}
+use Rattle.side_table.specs.Numbers.{Known, Numbered, entryOf}
+use Rattle.shared_sides.specs.Steps.{Mates}
+use Rattle.facing.specs.Refused.{reversalRefusal}
 use Rattle.facing.specs.Steps.{codeChoice, Ground, Whole, clashFaces, Chosen}
 use Rattle.facing.proofs.Going.{going-made, closes-if}
 use Rattle.facing.proofs.Rounds.{clash-closed, closed-clash}
@@ -39,7 +39,7 @@ passed r b e t = let y = not-false r t in (not-true b (sym e ∙ y), y)
 
 -- ---- a condition fails
 pub chosen-unfit : (fs : List (List ℕ)) (t : List ℕ) → unfit fs ≡ true → Chosen fs t 11
-unfolding unturnable firstRow
+unfolding reversalRefusal firstRow
 chosen-unfit fs t e = record { why = rw e; made = λ z. absurd (omega arith) }
 
 -- ---- both conditions hold
@@ -47,7 +47,7 @@ pub grounded : {number table corners ends : List ℕ} {k : ℕ} → Numbered num
     → unfit (facesOf corners ends) ≡ false → Mates (Known number k) (entryOf number k) table (facesOf corners ends)
     → Ground number k table corners ends
 grounded {number} {table} {corners} {ends} {k} n w f u m =
-    record { numbered = n; wide = w; few-faces = f; twice = unfit-is (facesOf corners ends) .0 u .twice; mates = m }
+    record { numbered = n; wide = w; few-faces = f; twice = unfit-is (facesOf corners ends) .0 u .twice; paired = m }
 
 module _ {number table corners ends t : List ℕ} {k : ℕ} (ground : Ground number k table corners ends) (w : Whole (facesOf corners ends) t)
     (u : unfit (facesOf corners ends) ≡ false) where
@@ -55,14 +55,14 @@ module _ {number table corners ends t : List ℕ} {k : ℕ} (ground : Ground num
   fs = facesOf corners ends
 
   pub chosen-none : {r : Bool} → r ≡ clashFaces (entryOf number k) table t fs → r ≡ true → Chosen fs t 12
-  unfolding unturnable firstRow
+  unfolding reversalRefusal firstRow
   chosen-none {r} told e = record { why = rw (u, unclosable-is fs .1 no-choice); made = λ z. absurd (omega arith) }
     where
       no-choice : (d : ℕ → Bool) → Closed (reversedBy d fs) → ⊥
       no-choice d h = true≢false (sym e ∙ told ∙ closed-clash ground t (closes-if fs t (w .going) (w .all) d h))
 
   pub chosen-made : {r : Bool} → r ≡ clashFaces (entryOf number k) table t fs → r ≡ false → Chosen fs t 0
-  unfolding unturnable firstRow
+  unfolding reversalRefusal firstRow
   chosen-made {r} told e =
       let h : Closed (reversedBy (codeChoice t) fs) = clash-closed ground t (sym told ∙ e) in
       record { why = rw (u, closable fs (codeChoice t) h); made = λ z. going-made fs t (w .going) h }

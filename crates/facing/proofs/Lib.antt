@@ -4,4 +4,4 @@ pub mod Neighbours
 pub mod Rounds
 pub mod Reversing
 pub mod Chosen
-pub mod Turned
+pub mod Reversed

@@ -14,7 +14,7 @@ use Rattle.places.specs.Loops.{pick}
 use Rattle.places.specs.Ring.{sides}
 use Rattle.exact.specs.Sides.{bit, count}
 use Rattle.exact.specs.Facing.{faceBy, Twice, has, Share}
-use Rattle.mates.specs.Marks.{faceOf, downOf, runsUp, Pair}
+use Rattle.shared_sides.specs.Steps.{faceOf, downOf, runsUp, Pair}
 use Rattle.facing.specs.Steps.{codeChoice, otherOf, upOf, againstOf, Met, as-was, now-reached, Spread}
 use Rattle.facing.proofs.Going.{code-on, reached-on, reached-now}
 use Rattle.facing.proofs.Spread.{still-in, spread-room, spread-asked}
@@ -131,9 +131,9 @@ module _ {fs : List (List ℕ)} {t list : List ℕ} {low head tail : ℕ} (s : S
         other = omega (arith, p .has-is (faceOf y), self y);
       }
 
-      turned : count i j (sides (faceBy (codeChoice t f) (getD fs f [])))
+      opposed : count i j (sides (faceBy (codeChoice t f) (getD fs f [])))
           + count i j (sides (faceBy (eqb (againstOf y up) 2) (getD fs (faceOf y) []))) ≡ 1
-      turned =
+      opposed =
           let a : runsUp (codeChoice t f) x ≡ up = rw down (sym way) in
           rw (mine (codeChoice t f), theirs (eqb (againstOf y up) 2), a, against-runs y up) (one-way up)
 
@@ -141,7 +141,7 @@ module _ {fs : List (List ℕ)} {t list : List ℕ} {low head tail : ℕ} (s : S
       reach =
           let w = againstOf y up in
           let hw : 0 < w = against-some y up in
-          let s′ = spread-asked s (faceOf y) w hy un hw tw f hf shared turned in
+          let s′ = spread-asked s (faceOf y) w hy un hw tw f hf shared opposed in
           record {
             spread = s′;
             codes = λ m h. code-on t (faceOf y) w hy un hw m h;

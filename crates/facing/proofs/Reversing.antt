@@ -49,11 +49,11 @@ module _ {c₀ es t : List ℕ} where
     lent : take (e - p) (drop p c) ≡ slice p e c₀
     lent = rw (r .ahead) (part-is p e c₀ (reverse-step .from))
 
-    pub reverse-turn : {w : ℕ} {part : List ℕ} {n′ : ℕ} → length t ≡ length es → w ≡ getD t k 0
+    pub reverse-next : {w : ℕ} {part : List ℕ} {n′ : ℕ} → length t ≡ length es → w ≡ getD t k 0
         → part ≡ faceBy (eqb w 2) (take (e - p) (drop p c)) → n′ ≡ n + bit (eqb w 2)
         → Reversing c₀ es t whole many e (k + 1) n′ (putMid p (e - p) c part)
     unfolding joined
-    reverse-turn {w} {part} {n′} lt ew g m =
+    reverse-next {w} {part} {n′} lt ew g m =
         let s = reverse-step in
         let sf = s .from in
         let su = s .upto in

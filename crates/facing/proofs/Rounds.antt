@@ -22,10 +22,9 @@ use Rattle.exact.proofs.Reversed.{sides-back, occurs-by, one-of, in-range, user
 use Rattle.exact.proofs.Conditions.{none-each}
 use Rattle.cell.specs.Faces.{facesOf}
 use Rattle.cell.proofs.Faces.{face-at, length-faces}
-use Rattle.skin.specs.Numbers.{Known, entryOf}
-use Rattle.mates.specs.Marks.{faceOf, runsUp, firstAt, secondAt, Pair}
-use Rattle.facing.specs.Steps.{codeChoice, Ground, neighbourOf, otherOf, upOf, Met, as-was, now-reached, Spread}
-use Rattle.facing.specs.Steps.{clash, clashFace, clashFaces, Marked}
+use Rattle.side_table.specs.Numbers.{Known, entryOf}
+use Rattle.shared_sides.specs.Steps.{faceOf, runsUp, firstAt, secondAt, Pair}
+use Rattle.facing.specs.Steps.{codeChoice, Ground, neighbourOf, otherOf, upOf, Met, as-was, now-reached, Spread, clash, clashFace, clashFaces, Marked}
 use Rattle.facing.proofs.Neighbours.{up-forth, up-back, Moved, met-side}
 use Rattle.facing.proofs.Spread.{reached-below, spread-room, spread-on}
 
@@ -55,7 +54,7 @@ place-of (e ∷ l) i j h = go (place-of l i j) (hits i j e) refl
 either-way : (P : ℕ → ℕ → Type 0) (face : List ℕ)
     → ((q : ℕ) → q < length (sides face) → P (getD (sides face) q (0, 0) .0) (getD (sides face) q (0, 0) .1))
     → ((i j : ℕ) → P i j → P j i) → (i j : ℕ) → 0 < has i j face → P i j
-either-way P face all turn i j h = go (decLt 0 (count i j (sides face)))
+either-way P face all way-back i j h = go (decLt 0 (count i j (sides face)))
   where
     there : (i j : ℕ) → PlaceOf (sides face) i j → P i j
     there i j r = rw (r .is .0, r .is .1) at (all (r .q) (r .within))
@@ -65,7 +64,7 @@ either-way P face all turn i j h = go (decLt 0 (count i j (sides face)))
 
     go : Dec (0 < count i j (sides face)) → P i j
     go (yes c) = at i j c
-    go (no n) = turn j i (at j i (omega arith))
+    go (no n) = way-back j i (at j i (omega arith))
 
 -- ---- a side of a face by its place
 -- the side of the face f at place q runs from a to b
@@ -105,10 +104,10 @@ module _ {number table corners ends : List ℕ} {k : ℕ} (ground : Ground numbe
       go : Dec (a < b)
           → Beside fs a b (pick (ltb a b) (getD table (at a b) 0) (getD table (at b a) 0))
           (pick (ltb a b) (getD table (at b a) 0) (getD table (at a b) 0))
-      go (yes h) = rw (lt-ltb a b h) (forth h (ground .mates .pair a b h ka kb o))
+      go (yes h) = rw (lt-ltb a b h) (forth h (ground .paired .pair a b h ka kb o))
       go (no n) =
           let h : b < a = omega arith in
-          rw (le-ltb a b (omega arith)) (back h (ground .mates .pair b a h kb ka (omega arith)))
+          rw (le-ltb a b (omega arith)) (back h (ground .paired .pair b a h kb ka (omega arith)))
 
   -- the side at place q of the face f, from a to b
   module _ {f q a b : ℕ} (o : OnFace corners ends f q a b) where

@@ -1,4 +1,4 @@
--- The list of faces that wait their turn: a face that is reached comes last in it, the first that has not asked asks, and where all have
+-- The list of faces that wait: a face that is reached comes last in it, the first that has not asked asks, and where all have
 -- asked no reached face has a neighbour that is not reached. The list has room for every face, since none comes into it twice.
 use mathlib.Core.Path.{_≡_, refl, sym, _∙_}
 use mathlib.Core.Logic.{_⊎_, inl, inr}

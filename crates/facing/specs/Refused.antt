@@ -5,5 +5,5 @@ use Rattle.exact.specs.Facing.{unfit, unclosable}
 use Rattle.cell.specs.Refusals.{firstRow}
 
 -- 11 a condition fails, on sides or on doubled vertices; 12 no choice of reversals closes the cell
-unfoldable pub unturnable : List (List ℕ) → ℕ
-unturnable fs = firstRow ((11, unfit fs) ∷ (12, unclosable fs) ∷ [])
+unfoldable pub reversalRefusal : List (List ℕ) → ℕ
+reversalRefusal fs = firstRow ((11, unfit fs) ∷ (12, unclosable fs) ∷ [])

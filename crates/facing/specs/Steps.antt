@@ -1,21 +1,22 @@
--- What the pass knows on its way; no promise of a public entry speaks of these.
+-- What functions below the gatehouse ask of and promise each other; no contract of a public entry speaks of these.
 -- t has a code for each face: 0 not reached, 1 keeps its direction, 2 is reversed.
 use mathlib.Core.Path.{_≡_}
 use mathlib.Core.Logic.{_≢_}
-use mathlib.Core.Bool.{Bool, true, false, not, _&&_, Bool·beq}
+use mathlib.Core.Bool.{Bool, true, not, _&&_, Bool·beq}
 use mathlib.Core.List.{List, [], _∷_}
 use Prim.Native.Nat.{ℕ, _+_, _*_, _<_, _≤_}
 use lib.Dec.{eqb, ltb}
 use lib.ListN.{length, getD, set}
+use Rattle.places.specs.Limits.{mostFaces}
 use Rattle.places.specs.Loops.{pick, anyOf}
 use Rattle.places.specs.Ring.{sides}
 use Rattle.exact.specs.Sides.{bit, Closed}
-use Rattle.exact.specs.Facing.{reversedBy, Twice, has, Share, Group, Made}
+use Rattle.exact.specs.Facing.{reversedBy, Twice, Share, Group, Made}
 use Rattle.exact.proofs.Forced.{differ}
 use Rattle.cell.specs.Faces.{facesOf}
-use Rattle.skin.specs.Numbers.{Known, Numbered, entryOf}
-use Rattle.facing.specs.Refused.{unturnable}
-use Rattle.mates.specs.Marks.{faceOf, downOf, runsUp, firstAt, secondAt, Mates}
+use Rattle.side_table.specs.Numbers.{Known, Numbered, entryOf}
+use Rattle.facing.specs.Refused.{reversalRefusal}
+use Rattle.shared_sides.specs.Steps.{faceOf, downOf, runsUp, firstAt, secondAt, Mates}
 
 -- the choice that the codes make
 abbrev pub codeChoice : List ℕ → ℕ → Bool
@@ -25,9 +26,9 @@ codeChoice t f = eqb (getD t f 0) 2
 pub record Ground (number : List ℕ) (k : ℕ) (table corners ends : List ℕ) : Type 0 where
   pub numbered : Numbered number k corners ends
   pub wide : k * k ≤ length table
-  pub few-faces : length ends ≤ 256
+  pub few-faces : length ends ≤ mostFaces
   pub twice : Twice (facesOf corners ends)
-  pub mates : Mates (Known number k) (entryOf number k) table (facesOf corners ends)
+  pub paired : Mates (Known number k) (entryOf number k) table (facesOf corners ends)
 
 -- ---- one side
 -- of the marks x and y at a side of the face f that of the other face
@@ -100,7 +101,7 @@ pub record Spread (fs : List (List ℕ)) (t list : List ℕ) (low head tail : �
 pub record Waiting (t list : List ℕ) (low head tail : ℕ) : Type 0 where
   pub fs : List (List ℕ)
   pub spread : Spread fs t list low head tail
-  pub few : length fs ≤ 256
+  pub few : length fs ≤ mostFaces
   pub some : head < length fs
 
 -- after the lowest face that is not reached came into the list where that was due: a face waits
@@ -136,5 +137,5 @@ pub record Marked (at : ℕ → ℕ → ℕ) (table : List ℕ) (n : ℕ) (e : �
 
 -- ---- what is chosen: why nothing is reversed, and where there is no reason, the choice that the codes make
 pub record Chosen (fs : List (List ℕ)) (t : List ℕ) (r : ℕ) : Type 0 where
-  pub why : r ≡ unturnable fs
+  pub why : r ≡ reversalRefusal fs
   pub made : r ≡ 0 → Made fs (codeChoice t)

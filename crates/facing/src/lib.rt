@@ -1,6 +1,6 @@
 // Which faces of a cell are to be reversed so that it becomes closed, and their reversal. From the lowest face of a group on,
 // each face asks its neighbours, the faces with which it shares a side: one that was not reached before is turned against it,
-// and waits its turn in a list.
+// and waits in a list.
 ghost use mathlib.Core.Path.{_≡_};
 ghost use mathlib.Core.Logic.{_≢_};
 ghost use mathlib.Core.Bool.{Bool, true, false};
@@ -8,16 +8,17 @@ ghost use mathlib.Core.List.{[], _∷_};
 ghost use Prim.Native.Nat.{ℕ, _+_, _*_, _<_, _≤_};
 ghost use lib.Dec.{T, eqb};
 ghost use lib.ListN.{length, getD};
+ghost use Rattle.places.specs.Limits.{mostVertices, mostFaces, mostCorners};
 ghost use Rattle.places.specs.Lists.{Each};
 ghost use Rattle.places.specs.Ring.{sides};
 ghost use Rattle.places.specs.Stored.{joined};
 ghost use Rattle.exact.specs.Sides.{bit};
 ghost use Rattle.exact.specs.Facing.{faceBy, reversedBy, howMany, Made};
 ghost use Rattle.cell.specs.Faces.{facesOf, rises};
-ghost use Rattle.skin.specs.Table.{Blank};
-ghost use Rattle.skin.specs.Numbers.{Known, Numbered, entryOf};
-ghost use Rattle.mates.specs.Marks.{faceOf, runsUp, firstAt, secondAt, Mates};
-ghost use Rattle.facing.specs.Refused.{unturnable};
+ghost use Rattle.side_table.specs.Table.{Blank};
+ghost use Rattle.side_table.specs.Numbers.{Known, Numbered, entryOf};
+ghost use Rattle.shared_sides.specs.Steps.{faceOf, runsUp, firstAt, secondAt, Mates};
+ghost use Rattle.facing.specs.Refused.{reversalRefusal};
 ghost use Rattle.facing.specs.Steps.{codeChoice, Ground, neighbourOf, upOf, againstOf, Met, Spread, Waiting, Seeded, Whole, clash, clashFace, clashFaces, Marked, Chosen};
 
 // How far the faces are reached: all before `low`, and those in the list before `tail`;
@@ -30,18 +31,18 @@ struct Reached {
 
 // The mark of the face on the other side of f's side from a to b; 0 where a is b.
 fn neighbour(table: &[u16], number: &[u16], k: usize, a: usize, b: usize, f: usize) -> u16
-    requires { ⌜ Known (now number) k a × Known (now number) k b × (k ≤ 256) ⌝ }
+    requires { ⌜ Known (now number) k a × Known (now number) k b × (k ≤ mostVertices) ⌝ }
     requires { ⌜ (k * k ≤ length (now table)) × (a ≢ b → 0 < firstAt (entryOf (now number) k) (now table) a b) ⌝ }
     ensures { λ r. ⌜ r ≡ neighbourOf (entryOf (now (number .entry)) k) (now (table .entry)) a b f ⌝ }
 {
     if a == b {
         return 0;
     }
-    let m = mates::first_mark(table, number, k, a, b);
-    if mates::face_of(m) != f {
+    let m = shared_sides::first_mark(table, number, k, a, b);
+    if shared_sides::face_of(m) != f {
         return m;
     }
-    mates::second_mark(table, number, k, a, b)
+    shared_sides::second_mark(table, number, k, a, b)
 }
 
 // Whether a face with the code w, as it is turned, runs its side from a to b from the lower vertex to the higher.
@@ -55,20 +56,20 @@ fn runs_up(a: usize, b: usize, w: u8) -> bool
 fn against(m: u16, up: bool) -> u8
     ensures { λ r. ⌜ r ≡ againstOf m up ⌝ }
 {
-    if mates::is_down(m) == up { 1 } else { 2 }
+    if shared_sides::is_down(m) == up { 1 } else { 2 }
 }
 
 // The neighbour at a side is asked: one that was not reached before is turned against the asking face, which runs the side
 // up or not, and comes into the list.
 fn meet(code: &mut [u8], list: &mut [u8], tail: usize, m: u16, up: bool) -> usize
-    requires { ⌜ (0 < m → faceOf m < length (now code)) × (length (now code) ≤ 256) ⌝ }
-    requires { ⌜ (0 < m → getD (now code) (faceOf m) 0 ≡ 0 → tail < length (now list)) × (length (now list) ≤ 256) ⌝ }
+    requires { ⌜ (0 < m → faceOf m < length (now code)) × (length (now code) ≤ mostFaces) ⌝ }
+    requires { ⌜ (0 < m → getD (now code) (faceOf m) 0 ≡ 0 → tail < length (now list)) × (length (now list) ≤ mostFaces) ⌝ }
     ensures { λ r. ⌜ Met (now (code .entry)) (now (list .entry)) tail m up (now (code .exit)) (now (list .exit)) r ⌝ }
 {
     if m == 0 {
         return tail;
     }
-    let g = mates::face_of(m);
+    let g = shared_sides::face_of(m);
     if code[g] != 0 {
         return tail;
     }
@@ -201,30 +202,30 @@ fn reach(table: &[u16], number: &[u16], k: usize, corners: &[u32], ends: &[u32],
     ensures { λ _. ⌜ Whole (facesOf (now (corners .entry)) (now (ends .entry))) (now (code .exit)) ⌝ }
 {
     let n = ends.len();
-    let mut list = [0u8; 256];
+    let mut list = [0u8; places::limits::MOST_FACES];
     reach_over(table, number, k, corners, ends, code, &mut list[..n]);
 }
 
 // Whether the face that left a mark, as its code turns it, runs the side up.
-fn turned_up(code: &[u8], m: u16) -> bool
+fn mark_runs_up(code: &[u8], m: u16) -> bool
     requires { ⌜ (0 < m) × (faceOf m < length (now code)) ⌝ }
     ensures { λ r. ⌜ r ≡ runsUp (codeChoice (now (code .entry)) (faceOf m)) m ⌝ }
 {
-    let f = mates::face_of(m);
-    (code[f] == 2) == mates::is_down(m)
+    let f = shared_sides::face_of(m);
+    (code[f] == 2) == shared_sides::is_down(m)
 }
 
 // Whether both faces at the side from a to b, where these differ, run it the same way.
 fn clash_side(table: &[u16], number: &[u16], k: usize, code: &[u8], a: usize, b: usize) -> bool
-    requires { ⌜ Known (now number) k a × Known (now number) k b × (k ≤ 256) ⌝ }
+    requires { ⌜ Known (now number) k a × Known (now number) k b × (k ≤ mostVertices) ⌝ }
     requires { ⌜ (k * k ≤ length (now table)) × Marked (entryOf (now number) k) (now table) (length (now code)) (a, b) ⌝ }
     ensures { λ r. ⌜ r ≡ clash (entryOf (now (number .entry)) k) (now (table .entry)) (now (code .entry)) (a, b) ⌝ }
 {
     if a == b {
         return false;
     }
-    let first = turned_up(code, mates::first_mark(table, number, k, a, b));
-    let second = turned_up(code, mates::second_mark(table, number, k, a, b));
+    let first = mark_runs_up(code, shared_sides::first_mark(table, number, k, a, b));
+    let second = mark_runs_up(code, shared_sides::second_mark(table, number, k, a, b));
     first == second
 }
 
@@ -281,7 +282,7 @@ fn clash_faces(
 }
 
 // A face in place, reversed where its code is 2; how many were: 1 or 0.
-fn turn_face(face: &mut [u32], w: u8) -> usize
+fn reverse_by_code(face: &mut [u32], w: u8) -> usize
     ensures turned { λ _. ⌜ now (face .exit) ≡ faceBy (eqb w 2) (now (face .entry)) ⌝ }
     ensures count { λ r. ⌜ r ≡ bit (eqb w 2) ⌝ }
 {
@@ -295,8 +296,8 @@ fn turn_face(face: &mut [u32], w: u8) -> usize
 // The faces by their codes, each in its own stretch of the corner list. What comes back is how many are reversed.
 // Ruled out: the whole corner list reversed, which lays each face in another's stretch; a count of all faces.
 pub fn reverse_faces(corners: &mut [u32], ends: &[u32], code: &[u8]) -> usize
-    requires { ⌜ T (rises 0 (now ends) (length (now corners))) × (length (now corners) ≤ 2048) ⌝ }
-    requires { ⌜ (length (now code) ≡ length (now ends)) × (length (now ends) ≤ 256) ⌝ }
+    requires { ⌜ T (rises 0 (now ends) (length (now corners))) × (length (now corners) ≤ mostCorners) ⌝ }
+    requires { ⌜ (length (now code) ≡ length (now ends)) × (length (now ends) ≤ mostFaces) ⌝ }
     ensures list { λ _. ⌜ now (corners .exit) ≡ joined (reversedBy (codeChoice (now (code .entry))) (facesOf (now (corners .entry)) (now (ends .entry)))) ⌝ }
     ensures count { λ r. ⌜ r ≡ howMany (codeChoice (now (code .entry))) (length (now (ends .entry))) ⌝ }
 {
@@ -307,7 +308,7 @@ pub fn reverse_faces(corners: &mut [u32], ends: &[u32], code: &[u8]) -> usize
     while f < n {
         let end = places::corner(ends, f);
         let w = code[f];
-        count += turn_face(&mut corners[start..end], w);
+        count += reverse_by_code(&mut corners[start..end], w);
         start = end;
         f += 1;
     }
@@ -324,11 +325,11 @@ fn choose_over(
     ends: &[u32],
     code: &mut [u8],
 ) -> u8
-    requires { ⌜ Numbered (now number) k (now corners) (now ends) × (length (now ends) ≤ 256) ⌝ }
+    requires { ⌜ Numbered (now number) k (now corners) (now ends) × (length (now ends) ≤ mostFaces) ⌝ }
     requires { ⌜ (k * k ≤ length (now table)) × Blank (now table) × Blank (now code) × (length (now code) ≡ length (now ends)) ⌝ }
     ensures { λ r. ⌜ Chosen (facesOf (now (corners .entry)) (now (ends .entry))) (now (code .exit)) r ⌝ }
 {
-    if !mates::pair_up(table, number, k, corners, ends) {
+    if !shared_sides::pair_up(table, number, k, corners, ends) {
         return 11;
     }
     reach(table, number, k, corners, ends, code);
@@ -340,7 +341,7 @@ fn choose_over(
 
 // The same with a table of its own: what is cleared is not much more than what the vertices that occur need.
 fn choose_16(number: &[u16], k: usize, corners: &[u32], ends: &[u32], code: &mut [u8]) -> u8
-    requires { ⌜ Numbered (now number) k (now corners) (now ends) × (length (now ends) ≤ 256) ⌝ }
+    requires { ⌜ Numbered (now number) k (now corners) (now ends) × (length (now ends) ≤ mostFaces) ⌝ }
     requires { ⌜ (k ≤ 16) × Blank (now code) × (length (now code) ≡ length (now ends)) ⌝ }
     ensures { λ r. ⌜ Chosen (facesOf (now (corners .entry)) (now (ends .entry))) (now (code .exit)) r ⌝ }
 {
@@ -349,7 +350,7 @@ fn choose_16(number: &[u16], k: usize, corners: &[u32], ends: &[u32], code: &mut
 }
 
 fn choose_32(number: &[u16], k: usize, corners: &[u32], ends: &[u32], code: &mut [u8]) -> u8
-    requires { ⌜ Numbered (now number) k (now corners) (now ends) × (length (now ends) ≤ 256) ⌝ }
+    requires { ⌜ Numbered (now number) k (now corners) (now ends) × (length (now ends) ≤ mostFaces) ⌝ }
     requires { ⌜ (k ≤ 32) × Blank (now code) × (length (now code) ≡ length (now ends)) ⌝ }
     ensures { λ r. ⌜ Chosen (facesOf (now (corners .entry)) (now (ends .entry))) (now (code .exit)) r ⌝ }
 {
@@ -358,7 +359,7 @@ fn choose_32(number: &[u16], k: usize, corners: &[u32], ends: &[u32], code: &mut
 }
 
 fn choose_64(number: &[u16], k: usize, corners: &[u32], ends: &[u32], code: &mut [u8]) -> u8
-    requires { ⌜ Numbered (now number) k (now corners) (now ends) × (length (now ends) ≤ 256) ⌝ }
+    requires { ⌜ Numbered (now number) k (now corners) (now ends) × (length (now ends) ≤ mostFaces) ⌝ }
     requires { ⌜ (k ≤ 64) × Blank (now code) × (length (now code) ≡ length (now ends)) ⌝ }
     ensures { λ r. ⌜ Chosen (facesOf (now (corners .entry)) (now (ends .entry))) (now (code .exit)) r ⌝ }
 {
@@ -367,7 +368,7 @@ fn choose_64(number: &[u16], k: usize, corners: &[u32], ends: &[u32], code: &mut
 }
 
 fn choose_128(number: &[u16], k: usize, corners: &[u32], ends: &[u32], code: &mut [u8]) -> u8
-    requires { ⌜ Numbered (now number) k (now corners) (now ends) × (length (now ends) ≤ 256) ⌝ }
+    requires { ⌜ Numbered (now number) k (now corners) (now ends) × (length (now ends) ≤ mostFaces) ⌝ }
     requires { ⌜ (k ≤ 128) × Blank (now code) × (length (now code) ≡ length (now ends)) ⌝ }
     ensures { λ r. ⌜ Chosen (facesOf (now (corners .entry)) (now (ends .entry))) (now (code .exit)) r ⌝ }
 {
@@ -376,8 +377,8 @@ fn choose_128(number: &[u16], k: usize, corners: &[u32], ends: &[u32], code: &mu
 }
 
 fn choose_256(number: &[u16], k: usize, corners: &[u32], ends: &[u32], code: &mut [u8]) -> u8
-    requires { ⌜ Numbered (now number) k (now corners) (now ends) × (length (now ends) ≤ 256) ⌝ }
-    requires { ⌜ (k ≤ 256) × Blank (now code) × (length (now code) ≡ length (now ends)) ⌝ }
+    requires { ⌜ Numbered (now number) k (now corners) (now ends) × (length (now ends) ≤ mostFaces) ⌝ }
+    requires { ⌜ (k ≤ mostVertices) × Blank (now code) × (length (now code) ≡ length (now ends)) ⌝ }
     ensures { λ r. ⌜ Chosen (facesOf (now (corners .entry)) (now (ends .entry))) (now (code .exit)) r ⌝ }
 {
     let mut table = [0u16; 65536];
@@ -387,13 +388,13 @@ fn choose_256(number: &[u16], k: usize, corners: &[u32], ends: &[u32], code: &mu
 // Why no faces of a cell of v vertices are reversed, 0 where some may be; then the codes are the choice, 2 for each face that it reverses.
 // Ruled out: 12 for a cell that some choice closes; a choice that reverses the lowest face of a group.
 pub fn choose(corners: &[u32], ends: &[u32], v: usize, code: &mut [u8]) -> u8
-    requires { ⌜ Each 0 (λ c. c < v) (now corners) × (v ≤ 256) ⌝ }
-    requires { ⌜ (length (now corners) ≤ 2048) × T (rises 0 (now ends) (length (now corners))) × (length (now ends) ≤ 256) ⌝ }
+    requires { ⌜ Each 0 (λ c. c < v) (now corners) × (v ≤ mostVertices) ⌝ }
+    requires { ⌜ (length (now corners) ≤ mostCorners) × T (rises 0 (now ends) (length (now corners))) × (length (now ends) ≤ mostFaces) ⌝ }
     requires { ⌜ Blank (now code) × (length (now code) ≡ length (now ends)) ⌝ }
     ensures { λ r. ⌜ Chosen (facesOf (now (corners .entry)) (now (ends .entry))) (now (code .exit)) r ⌝ }
 {
-    let mut number = [256u16; 256];
-    let k = skin::number_all(&mut number, corners);
+    let mut number = [256u16; places::limits::MOST_VERTICES];
+    let k = side_table::number_all(&mut number, corners);
     if k <= 16 {
         return choose_16(&number, k, corners, ends, code);
     }
@@ -412,11 +413,11 @@ pub fn choose(corners: &[u32], ends: &[u32], v: usize, code: &mut [u8]) -> u8
 // Only why: for a caller that reverses nothing.
 // Ruled out: 12 before 11; a refusal of a cell that is closed already.
 pub fn refusal(corners: &[u32], ends: &[u32], v: usize) -> u8
-    requires { ⌜ Each 0 (λ c. c < v) (now corners) × (v ≤ 256) ⌝ }
-    requires { ⌜ (length (now corners) ≤ 2048) × T (rises 0 (now ends) (length (now corners))) × (length (now ends) ≤ 256) ⌝ }
-    ensures { λ r. ⌜ r ≡ unturnable (facesOf (now (corners .entry)) (now (ends .entry))) ⌝ }
+    requires { ⌜ Each 0 (λ c. c < v) (now corners) × (v ≤ mostVertices) ⌝ }
+    requires { ⌜ (length (now corners) ≤ mostCorners) × T (rises 0 (now ends) (length (now corners))) × (length (now ends) ≤ mostFaces) ⌝ }
+    ensures { λ r. ⌜ r ≡ reversalRefusal (facesOf (now (corners .entry)) (now (ends .entry))) ⌝ }
 {
     let n = ends.len();
-    let mut code = [0u8; 256];
+    let mut code = [0u8; places::limits::MOST_FACES];
     choose(corners, ends, v, &mut code[..n])
 }

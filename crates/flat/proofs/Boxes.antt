@@ -6,7 +6,8 @@ use native.Mathlib.Nat.{le-of-suc-le-suc, zero-add}
 use native.Mathlib.Omega.{arith}
 use lib.Ieee.{Float, isNan}
 use Rattle.floats.proofs.Picks.{least-number, largest-number}
-use Rattle.flat.specs.Points.{Point, Box, at, coordinatesFrom, pointBy, widenOf, noBox, Numbers}
+use Rattle.flat.specs.Points.{Point, Box, at, coordinatesFrom, pointBy, widenOf, noBox}
+use Rattle.flat.specs.Steps.{Numbers}
 
 coordinate-at : (f : ℕ → Float) (D i k : ℕ) → k < D → at (coordinatesFrom f D i) k ≡ f (i + k)
 coordinate-at f zero i k h = absurd (omega arith)

@@ -1,2 +1,3 @@
 pub mod Points
 pub mod Flat
+pub mod Steps

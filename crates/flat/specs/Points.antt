@@ -1,13 +1,11 @@
 -- Points. A point is the list of its coordinates: two in the plane, three in space. The definitions that Rust has for both take that number, D, as their first argument.
-use mathlib.Core.Path.{_≡_}
-use Prim.Native.Nat.{ℕ, zero, suc, _+_, _<_}
+use Prim.Native.Nat.{ℕ, zero, suc, _+_}
 use mathlib.Core.List.{List, [], _∷_, map}
 use mathlib.Core.Bool.{true, false}
 use lib.ListN.{length, getD}
 use lib.IntN.{pos}
-use lib.Ieee.{Float, nan, inf, binary64, isNan, ofInt}
+use lib.Ieee.{Float, nan, inf, binary64, ofInt}
 use Rattle.places.specs.Loops.{foldList}
-use Rattle.places.specs.Lists.{Each}
 use Rattle.places.specs.Stored.{inThrees}
 use Rattle.floats.specs.F64.{_+f_, _-f_, _/f_, zero64}
 use Rattle.floats.specs.Pick.{leastOf, largestOf}
@@ -36,10 +34,6 @@ verticesOf coords = inThrees coords
 -- the vertex with a number
 abbrev pub vertexOf : List Point → ℕ → Point
 vertexOf vs v = getD vs v []
-
--- every corner of a face is the number of a vertex
-abbrev pub Inside : List Point → List ℕ → Type 0
-Inside vs face = Each 0 (λ v. v < length vs) face
 
 -- where the corners of a face are, in order
 unfoldable pub cornersOf : List Point → List ℕ → List Point
@@ -71,11 +65,6 @@ noBox D = pointBy D (λ k. inf false) ∷ pointBy D (λ k. inf true) ∷ []
 
 unfoldable pub boundsOf : ℕ → List Point → Box
 boundsOf D ps = foldList (widenOf D) ps (noBox D)
-
--- no coordinate of a box is a NaN
-pub record Numbers (D : ℕ) (box : Box) : Type 0 where
-  pub low : (k : ℕ) → k < D → isNan (at (getD box 0 []) k) ≡ false
-  pub high : (k : ℕ) → k < D → isNan (at (getD box 1 []) k) ≡ false
 
 -- the side of a box along the axis k
 abbrev sideOf : Box → ℕ → Float

@@ -2,7 +2,8 @@
 pub mod space;
 
 ghost use mathlib.Core.Path.{_≡_};
-ghost use Rattle.flat.specs.Points.{plusOf, minusOf, overOf, widenOf, Numbers, scaleOf};
+ghost use Rattle.flat.specs.Points.{plusOf, minusOf, overOf, widenOf, scaleOf};
+ghost use Rattle.flat.specs.Steps.{Numbers};
 ghost use Rattle.flat.specs.Flat.{cross2Of, newellSide, axisOf, project2Of, areaSide, crossingOf};
 
 // (b - a) x (c - a).
@@ -13,7 +14,7 @@ pub fn cross2(a: [f64; 2], b: [f64; 2], c: [f64; 2]) -> f64
 }
 
 // The sums s with the terms of the side from a to b added.
-pub fn newell_side(a: [f64; 3], b: [f64; 3], s: [f64; 3]) -> [f64; 3]
+fn newell_side(a: [f64; 3], b: [f64; 3], s: [f64; 3]) -> [f64; 3]
     ensures { λ r. ⌜ r ≡ newellSide a b s ⌝ }
 {
     [
@@ -94,7 +95,7 @@ pub fn over3(p: [f64; 3], n: f64) -> [f64; 3]
 }
 
 // A box widened so that p is in it. No coordinate of the box is a NaN, so that each takes one comparison.
-pub fn widen3(p: [f64; 3], b: [[f64; 3]; 2]) -> [[f64; 3]; 2]
+fn widen3(p: [f64; 3], b: [[f64; 3]; 2]) -> [[f64; 3]; 2]
     requires { ⌜ Numbers 3 b ⌝ }
     ensures { λ r. ⌜ r ≡ widenOf 3 p b ⌝ }
 {

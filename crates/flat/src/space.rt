@@ -5,7 +5,10 @@ ghost use lib.ListN.{length, getD, set};
 ghost use mathlib.Core.List.{[]};
 ghost use lib.IntN.{pos};
 ghost use lib.Ieee.{binary64, ofInt};
-ghost use Rattle.flat.specs.Points.{verticesOf, vertexOf, Inside, cornersOf, centroidOf, boundsOf};
+ghost use Rattle.places.specs.Limits.{mostCoordinates};
+ghost use Rattle.places.specs.Steps.{overThrees};
+ghost use Rattle.flat.specs.Points.{verticesOf, vertexOf, cornersOf, centroidOf, boundsOf};
+ghost use Rattle.flat.specs.Steps.{Inside};
 ghost use Rattle.flat.specs.Flat.{newellOf, pointOf};
 
 // The vertex with a number.
@@ -21,11 +24,12 @@ pub fn vertex(coords: &[f64], v: usize) -> [f64; 3]
     ]
 }
 
-// A vertex laid down under a number.
+// A vertex laid down under a number. One or two numbers that stand after the last vertex stay as they were.
 // Ruled out: the vertex laid down from the number's own place on; a number of the next vertex changed.
 pub fn put_vertex(coords: &mut [f64], v: usize, p: [f64; 3])
     requires { ⌜ v < length (verticesOf (now coords)) ⌝ }
-    ensures { λ _. ⌜ verticesOf (now (coords .exit)) ≡ set (verticesOf (now (coords .entry))) v p ⌝ }
+    ensures vertices { λ _. ⌜ verticesOf (now (coords .exit)) ≡ set (verticesOf (now (coords .entry))) v p ⌝ }
+    ensures over { λ _. ⌜ overThrees (now (coords .exit)) ≡ overThrees (now (coords .entry)) ⌝ }
 {
     let i = v * 3;
     coords[i] = p[0];
@@ -101,7 +105,7 @@ pub fn count(n: u16) -> f64
 }
 
 pub fn vertex_centroid(coords: &[f64]) -> [f64; 3]
-    requires { ⌜ length (now coords) ≤ 768 ⌝ }
+    requires { ⌜ length (now coords) ≤ mostCoordinates ⌝ }
     ensures { λ r. ⌜ r ≡ centroidOf 3 (verticesOf (now (coords .entry))) ⌝ }
 {
     let n = coords.len() / 3;

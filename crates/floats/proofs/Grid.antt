@@ -16,7 +16,7 @@ use lib.Ieee.Exact.{HasValue, odd-sign}
 use lib.Ieee.Positive.{positive}
 
 -- ---- a value has one size
-one-value : (x : Float) (s : Bool) (a b c : ℕ) → HasValue x s a c → HasValue x s b c → a ≡ b
+pub one-value : (x : Float) (s : Bool) (a b c : ℕ) → HasValue x s a c → HasValue x s b c → a ≡ b
 one-value nan s a b c v w = absurd v
 one-value (inf t) s a b c v w = absurd v
 one-value (fin t m e) s a b c v w = eq-of-mul-eq-mul-right (down e) (down-pos e) a b (sym (v .1) ∙ w .1)

@@ -10,7 +10,9 @@ pub mod Writing
 pub mod Steps
 pub mod Special
 pub mod Grid
+pub mod Delivered
 pub mod Nearest
 pub mod Monotone
 pub mod Order
+pub mod Within
 pub mod Worked

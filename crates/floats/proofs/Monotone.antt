@@ -20,25 +20,10 @@ use lib.Ieee.Exact.{HasValue}
 use lib.Ieee.Order.{transfer, le-of-values}
 use Rattle.floats.specs.Pick.{largestOf}
 use Rattle.floats.specs.Root.{floorRoot, roundRoot, rootOf}
-use Rattle.floats.proofs.Nearest.{NearestRoot, correctly-rounded}
+use Rattle.floats.specs.Nearest.{NearestRoot}
+use Rattle.floats.proofs.Delivered.{root-fits}
+use Rattle.floats.proofs.Nearest.{correctly-rounded}
 use Rattle.floats.proofs.Writing.{units-fits}
-
--- ---- the root of a value of the format is one
-round-root-fits : (f : Format) (num den : ℕ) → T (fits f (roundRoot f num den))
-unfolding roundRoot
-round-root-fits f num den =
-    let n = num * (2 ^ low f * 2 ^ low f) in
-    let w = floorRoot (n / den) in
-    let k = size w - prec f in
-    let q = w / 2 ^ k in
-    let o = compare (4 * n) ((2 * q + 1) * 2 ^ k * ((2 * q + 1) * 2 ^ k) * den) in
-    units-fits f false (nearest q o) k (le-trans (nearest-le q o) (kept-lt (prec f) w))
-
-pub root-fits : (f : Format) (x : Float) → T (fits f x) → T (fits f (rootOf f x))
-unfolding rootOf
-root-fits f nan h = nan-fits f
-root-fits f (inf s) h = cond-fits f s nan (inf false) (nan-fits f) (inf-fits f false)
-root-fits f (fin s m e) h = cond-fits f (eqb m 0) (fin s m e) (cond s nan (roundRoot f (m * up e) (down e))) h (cond-fits f s nan (roundRoot f (m * up e) (down e)) (nan-fits f) (round-root-fits f (m * up e) (down e)))
 
 -- ---- two values with the sign clear that are a and b times the same: their order is that of a and b, and where a is b they are one value
 le-is : (x y : Float) (a b c : ℕ) → 0 < c → HasValue x false a c → HasValue y false b c → T (le x y) → a ≤ b
@@ -151,7 +136,7 @@ unfolding rootOf
 rooted f zero e h = (
   0,
   0,
-  record { number = zero-value e (2 ^ low f * 2 ^ low f); root = zero-value e (2 ^ low f); no-nearer = λ z y t w. (λ l. absurd (omega arith), λ l. omega arith) },
+  record { number = zero-value e (2 ^ low f * 2 ^ low f); in-format = root-fits f (fin false zero e) h; root = zero-value e (2 ^ low f); no-nearer = λ z y t w. (λ l. absurd (omega arith), λ l. omega arith) },
 )
 rooted f (suc m) e h = correctly-rounded f (fin false (suc m) e) h (lt→ltb 0 (suc m) (omega arith))
 
@@ -261,7 +246,7 @@ units-unsigned f q k = go (ltb (q * 2 ^ k) (2 ^ (low f + suc (emax f)))) q
     go true zero = tt
     go true (suc q) = tt
 
-round-unsigned : (f : Format) (num den : ℕ) → T (unsigned (round f false num den))
+pub round-unsigned : (f : Format) (num den : ℕ) → T (unsigned (round f false num den))
 unfolding round
 round-unsigned f num den = units-unsigned f _ _
 

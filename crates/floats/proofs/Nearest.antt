@@ -1,9 +1,13 @@
--- `rootOf` gives the nearest value, for every number of the format above zero: no value of the format is nearer to the exact root (`correctly-rounded`).
--- The exact root need not be a whole number of units, so distances to it are compared by squares: r is at least as near as y exactly when the root is not on y's side of their mid-point.
+-- `CorrectlyRounded` and `NoTie` of specs/Nearest.antt hold. The kept digits or one more are taken, by the side of their mid-point on
+-- which the root lies, and no value of the format lies between the two. Were the root the mid-point of two values, it would be a value
+-- itself, since its square is one, and then a nearer one.
 use mathlib.Core.Path.{_≡_, refl, sym, ap, _∙_, subst}
-use mathlib.Core.Logic.{_⊎_, inl, inr, ⊎-elim}
+use mathlib.Core.Logic.{_≢_, _⊎_, inl, inr, ⊎-elim}
 use Prim.Native.Nat.{ℕ, zero, suc, _+_, _-_, _*_, _/_, _%_, _^_, _≤_, _<_, compare, Ordering, Ordering·lt, Ordering·eq, Ordering·gt}
-use native.Mathlib.Nat.{le-div-iff-mul-le, le-trans, le-of-eq, le-of-lt, lt-of-lt-of-le, lt-of-le-of-lt, not-le-of-lt, eq-zero-or-pos, le-of-mul-le-mul-right, mul-assoc, mul-right-comm, mul-le-mul, mul-le-mul-right, mul-le-mul-left, mul-pos, mul-lt-mul-of-pos-right, lt-of-mul-lt-mul-right, div-mul-le-self, lt-div-mul-add}
+use native.Mathlib.Decide.{decLt}
+use native.Mathlib.Nat.{pow-suc, le-div-iff-mul-le, le-trans, le-of-eq, le-of-lt, lt-of-lt-of-le, lt-of-le-of-lt, not-le-of-lt}
+use native.Mathlib.Nat.{eq-zero-or-pos, le-of-mul-le-mul-right, mul-assoc, mul-right-comm, mul-le-mul, mul-le-mul-right, mul-le-mul-left}
+use native.Mathlib.Nat.{mul-pos, mul-lt-mul-of-pos-right, lt-of-mul-lt-mul-right, div-mul-le-self, lt-div-mul-add}
 use native.Mathlib.Omega.{arith}
 use mathlib.Core.Bool.{false, not}
 use lib.Dec.{T, leb, eqb, isLe, isEq, leb→le, nleb→lt, eqb→eq, lit<}
@@ -12,27 +16,19 @@ use lib.Ieee.{Float, nan, inf, fin, Format, binary32, binary64, prec, emax, low,
 use lib.Ieee.Digits.{size-reaches, size-le}
 use lib.Ieee.Fits.{two, reach, two-le-pos, kept-lt, nearest-le}
 use lib.Ieee.Exact.{HasValue, units-val}
-use lib.Ieee.Positive.{positive, value-pos}
-use Rattle.floats.specs.Root.{floorRoot, roundRoot, rootOf}
+use lib.Ieee.Positive.{value-pos}
+use Rattle.floats.specs.Root.{floorRoot, roundRoot}
+use Rattle.floats.specs.Nearest.{NoNearer, CorrectlyRounded, NoTie}
+use Rattle.floats.proofs.Delivered.{root-fits}
 use Rattle.floats.proofs.Squares.{floor-root, sq-lt-back}
 use Rattle.floats.proofs.Rounded.{fromDigits, from-whole, InUnits, opened, not-zero}
-use Rattle.floats.proofs.Grid.{units-value, in-format, OnGrid, on-grid, has-units, gap}
-
--- y units are no nearer to the root of n than r units are: where y is less, the mid-point of the two is at most the root, and where it is more, at least
-abbrev pub NoNearer : (n r y : ℕ) → Type 0
-NoNearer n r y = (y < r → (r + y) * (r + y) ≤ 4 * n) × (r < y → 4 * n ≤ (r + y) * (r + y))
-
--- x is n units squared, `rootOf f x` is r units, and no value z of the format is nearer to the root. One with its sign set is further off than +0, so z has its sign clear.
-pub record NearestRoot (f : Format) (x : Float) (n r : ℕ) : Type 0 where
-  pub number : HasValue x false n (2 ^ low f * 2 ^ low f)
-  pub root : HasValue (rootOf f x) false r (2 ^ low f)
-  pub no-nearer : (z : Float) (y : ℕ) → T (fits f z) → HasValue z false y (2 ^ low f) → NoNearer n r y
+use Rattle.floats.proofs.Grid.{one-value, units-value, in-format, OnGrid, on-grid, has-units, gap}
 
 -- ---- what `nearest` picks
-abbrev Picked : (q a b r : ℕ) → Type 0
+abbrev pub Picked : (q a b r : ℕ) → Type 0
 Picked q a b r = ((r ≡ q) × (a ≤ b)) ⊎ ((r ≡ q + 1) × (b ≤ a))
 
-picked : (q a b : ℕ) → Picked q a b (nearest q (compare a b))
+pub picked : (q a b : ℕ) → Picked q a b (nearest q (compare a b))
 picked q a b = go (compare a b) (leb→le a b) (nleb→lt a b) (eqb→eq a b)
   where
     suc-is : (q : ℕ) → suc q ≡ q + 1
@@ -57,7 +53,7 @@ module _ (n q s y : ℕ) (lo : q * s * (q * s) ≤ n) (hi : n ≤ (q + 1) * s * 
   mid : q * s + (q + 1) * s ≡ (2 * q + 1) * s
   mid = omega arith
 
-  low-one : 4 * n ≤ (2 * q + 1) * s * ((2 * q + 1) * s) → NoNearer n (q * s) y
+  pub low-one : 4 * n ≤ (2 * q + 1) * s * ((2 * q + 1) * s) → NoNearer n (q * s) y
   low-one h = (below, λ l. above l clear)
     where
       below : y < q * s → (q * s + y) * (q * s + y) ≤ 4 * n
@@ -72,7 +68,7 @@ module _ (n q s y : ℕ) (lo : q * s * (q * s) ≤ n) (hi : n ≤ (q + 1) * s * 
           let a : (2 * q + 1) * s ≤ q * s + y = le-trans (le-of-eq (sym mid)) (omega arith) in
           le-trans h (mul-le-mul a a)
 
-  high-one : (2 * q + 1) * s * ((2 * q + 1) * s) ≤ 4 * n → NoNearer n ((q + 1) * s) y
+  pub high-one : (2 * q + 1) * s * ((2 * q + 1) * s) ≤ 4 * n → NoNearer n ((q + 1) * s) y
   high-one h = (λ l. below l clear, above)
     where
       below : y < (q + 1) * s → (y ≤ q * s) ⊎ ((q + 1) * s ≤ y) → ((q + 1) * s + y) * ((q + 1) * s + y) ≤ 4 * n
@@ -88,7 +84,7 @@ module _ (n q s y : ℕ) (lo : q * s * (q * s) ≤ n) (hi : n ≤ (q + 1) * s * 
           le-trans (mul-le-mul-left 4 hi) (le-trans (le-of-eq (sym (twice-square r))) (mul-le-mul a a))
 
 -- ---- q, the kept digits, has prec of them where any were dropped
-kept-ge : (p w : ℕ) → 0 < p → 0 < size w - p → 2 ^ (p - 1) ≤ w / 2 ^ (size w - p)
+pub kept-ge : (p w : ℕ) → 0 < p → 0 < size w - p → 2 ^ (p - 1) ≤ w / 2 ^ (size w - p)
 kept-ge p w P K =
     le-div-iff-mul-le (pow-pos (size w - p)) .1
     (le-trans (le-of-eq (sym (pow-add 2 (p - 1) (size w - p)))) (size-reaches w (p - 1 + (size w - p)) (left (size w) K)))
@@ -97,7 +93,8 @@ kept-ge p w P K =
     left z h = omega arith
 
 -- ---- the result against any value
-nearest-root : (f : Format) (num den n r y : ℕ) → 0 < den → num * (2 ^ low f * 2 ^ low f) ≡ n * den → HasValue (roundRoot f num den) false r (2 ^ low f) → OnGrid f y → NoNearer n r y
+pub nearest-root : (f : Format) (num den n r y : ℕ) → 0 < den → num * (2 ^ low f * 2 ^ low f) ≡ n * den
+    → HasValue (roundRoot f num den) false r (2 ^ low f) → OnGrid f y → NoNearer n r y
 nearest-root f num den n r y D e v g =
     let m = num * (2 ^ low f * 2 ^ low f) in
     let w = floorRoot n in
@@ -182,7 +179,7 @@ squared f nan y v = v
 squared f (inf s) y v = v
 squared f (fin s m e) y v = (v .0, sym (mul-assoc (m * up e) (2 ^ low f) (2 ^ low f)) ∙ ap (λ (z : ℕ). z * 2 ^ low f) (v .1) ∙ mul-right-comm y (down e) (2 ^ low f))
 
-pub correctly-rounded : (f : Format) (x : Float) → T (fits f x) → T (positive x) → (n : ℕ) × (r : ℕ) × NearestRoot f x n r
+pub correctly-rounded : CorrectlyRounded
 correctly-rounded f x h p =
     let u = has-units f x h p in
     let n = u .0 * 2 ^ low f in
@@ -194,7 +191,61 @@ correctly-rounded f x h p =
       k .0,
       record {
         number = v;
+        in-format = root-fits f x h;
         root = subst (λ (a : Float). HasValue a false (k .0) (2 ^ low f)) (sym (o .4)) (k .1);
         no-nearer = λ z y t w. nearest-root f (o .0) (o .1) n (k .0) y (o .2) (o .3) (k .1) (on-grid f z y t w);
       },
     )
+
+-- ---- no tie
+-- a whole number whose square is four times n is twice the root of n
+halved : (s n : ℕ) → s * s ≡ 4 * n → (h : ℕ) × (s ≡ h + h) × (h * h ≡ n)
+halved s n e = go (s / 2) (s % 2) (omega arith) (omega arith)
+  where
+    go : (h b : ℕ) → s ≡ 2 * h + b → b < 2 → (h : ℕ) × (s ≡ h + h) × (h * h ≡ n)
+    go h zero p q = (h, omega arith, omega (arith, rw p at e))
+    go h (suc zero) p q = absurd (omega (arith, rw p at e))
+    go h (suc (suc b)) p q = absurd (omega arith)
+
+-- a root whose square has at most prec + 1 digits has at most prec
+few-digits : (f : Format) (m c h : ℕ) → m < 2 ^ prec f → c ≤ 2 → h * h ≡ m * c → h < 2 ^ prec f
+few-digits f m c h M C e =
+    let top = 2 ^ prec f in
+    let a : m * 2 < top * 2 = omega arith in
+    let b : 2 ≤ top = pow-mono (two-le-pos (prec f) (two f)) in
+    sq-lt-back h top (lt-of-le-of-lt (le-trans (le-of-eq e) (mul-le-mul-left m C)) (lt-of-lt-of-le a (mul-le-mul-left top b)))
+
+-- where the root of a value is a whole number of units, it is a value of the format
+root-on-grid : (f : Format) (b m h : ℕ) → m < 2 ^ prec f → h * h ≡ m * 2 ^ b → OnGrid f h
+root-on-grid f zero m h M e = (h, 0, few-digits f m 1 h M (omega arith) e, omega arith)
+root-on-grid f (suc zero) m h M e = (h, 0, few-digits f m 2 h M (omega arith) e, omega arith)
+root-on-grid f (suc (suc b)) m h M e =
+    let four : m * 2 ^ suc (suc b) ≡ 4 * (m * 2 ^ b) = rw (pow-suc 2 (suc b), pow-suc 2 b) (omega arith) in
+    let (k, twice, k-is) = halved h (m * 2 ^ b) (e ∙ four) in
+    let (c, j, C, c-is) = root-on-grid f b m k M k-is in
+    (c, suc j, C, rw (pow-suc 2 j) (doubled c (2 ^ j) k h twice c-is))
+  where
+    doubled : (c s k h : ℕ) → h ≡ k + k → k ≡ c * s → h ≡ c * (s * 2)
+    doubled c s k h p q = omega arith
+
+-- the mid-point h of r and y, where it is the root of n and not nearer to it than r, is r
+apart : (n r y h : ℕ) → r + y ≡ h + h → h * h ≡ n → NoNearer n r h → y ≢ r → ⊥
+apart n r y h s q g ne = go (decLt h r) (decLt r h)
+  where
+    go : Dec (h < r) → Dec (r < h) → ⊥
+    go (yes l) d = let a : h + h + 1 ≤ r + h = omega arith in omega (arith, g .0 l, mul-le-mul a a)
+    go (no k) (yes l) = let a : r + h + 1 ≤ h + h = omega arith in omega (arith, g .1 l, mul-le-mul a a)
+    go (no k) (no l) = ne (omega arith)
+
+pub no-tie : NoTie
+no-tie f x n r y hx p g ne e =
+    let l = 2 ^ low f in
+    let u = has-units f x hx p in
+    let (m, j, M, u-is) = on-grid f x (u .0) hx (u .1) in
+    let n-is : n ≡ u .0 * l = one-value x false n (u .0 * l) (l * l) (g .number) (squared f x (u .0) (u .1)) in
+    let (h, twice, h-is) = halved (r + y) n e in
+    let square : h * h ≡ m * 2 ^ (j + low f) =
+    h-is ∙ n-is ∙ ap (λ (a : ℕ). a * l) u-is ∙ mul-assoc m (2 ^ j) l ∙ ap (λ (a : ℕ). m * a) (sym (pow-add 2 j (low f))) in
+    let o = opened f x n (g .number) (value-pos x n (l * l) p (mul-pos (pow-pos (low f)) (pow-pos (low f))) (g .number)) in
+    let v = subst (λ (a : Float). HasValue a false r l) (o .4) (g .root) in
+    apart n r y h twice h-is (nearest-root f (o .0) (o .1) n r h (o .2) (o .3) v (root-on-grid f (j + low f) m h M square)) ne

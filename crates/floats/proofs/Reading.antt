@@ -40,7 +40,7 @@ at-field : (t x : ℕ) → suc x < 2047 → ofFields binary64 false (suc x) t �
 unfolding ofFields
 at-field t x h = ap (λ (b : Bool). cond b (cond (eqb t 0) (inf false) nan) (odd 53 false (hidden + t) x 1074)) (ne-eqb (suc x) 2047 (omega arith))
 
-small-value : (b : ℕ) → b < hidden → HasValue (ofBits binary64 b) false b (2 ^ 1074)
+pub small-value : (b : ℕ) → b < hidden → HasValue (ofBits binary64 b) false b (2 ^ 1074)
 small-value b h =
     let field : b / hidden ≡ 0 = omega arith in
     let digits : b % hidden ≡ b = omega arith in
@@ -49,7 +49,8 @@ small-value b h =
     subst (λ (v : Float). HasValue v false b (2 ^ 1074)) (sym is)
     (subst (λ (n : ℕ). HasValue (odd 53 false b 0 1074) false n (2 ^ 1074)) (mul-one b) (odd-sign 53 false b 0 1074))
 
-normal-value : (b : ℕ) → hidden ≤ b → b < infinity → HasValue (ofBits binary64 b) false ((hidden + b % hidden) * 2 ^ (b / hidden - 1)) (2 ^ 1074)
+pub normal-value : (b : ℕ) → hidden ≤ b → b < infinity
+    → HasValue (ofBits binary64 b) false ((hidden + b % hidden) * 2 ^ (b / hidden - 1)) (2 ^ 1074)
 normal-value b h k =
     let field : b / hidden ≡ suc (b / hidden - 1) = omega arith in
     let is : ofBits binary64 b ≡ odd 53 false (hidden + b % hidden) (b / hidden - 1) 1074 =

@@ -24,10 +24,10 @@ units-fits f s q k a = go (ltb (q * 2 ^ k) (2 ^ (low f + suc (emax f)))) (ltb→
     go false h = inf-fits f s
 
 -- ---- the bits of a value that is n smallest values
-abbrev written : Format → ℕ → ℕ
+abbrev pub written : Format → ℕ → ℕ
 written f n = (size n - prec f) * hid f + n / 2 ^ (size n - prec f)
 
-bits-of : (f : Format) (x : Float) (n : ℕ) → HasValue x false n (2 ^ low f) → toBits f x ≡ written f n
+pub bits-of : (f : Format) (x : Float) (n : ℕ) → HasValue x false n (2 ^ low f) → toBits f x ≡ written f n
 unfolding toBits
 bits-of f nan n v = absurd v
 bits-of f (inf s) n v = absurd v
@@ -70,7 +70,7 @@ carried f q k e =
     regroup : (k h q : ℕ) → q ≡ 2 * h → suc k * h + h ≡ k * h + q
     regroup k h q e = omega arith
 
-written-as : (f : Format) (q k : ℕ) → hid f ≤ q → q ≤ 2 ^ prec f → written f (q * 2 ^ k) ≡ k * hid f + q
+pub written-as : (f : Format) (q k : ℕ) → hid f ≤ q → q ≤ 2 ^ prec f → written f (q * 2 ^ k) ≡ k * hid f + q
 written-as f q k lo hi = elim (eq-or-lt-of-le hi) [ inl e ↦ carried f q k e | inr l ↦ written-in f q k lo l ]
 
 room : (p e k : ℕ) → 2 ≤ p → suc (suc k) < 2 * e + 1 → p + k < e + p - 2 + suc e
@@ -84,7 +84,7 @@ pack f q k lo hi h =
     ap (ofBits f) (sym (bits-of f (units f false q k) (q * 2 ^ k) (units-val f false q k (in-range f q k hi h)) ∙ written-as f q k lo hi))
     ∙ ofBits-toBits f (units f false q k) (units-fits f false q k hi)
 
-valued : (x : Float) (s : Bool) (a c : ℕ) → HasValue x s a c → isNan x ≡ false
+pub valued : (x : Float) (s : Bool) (a c : ℕ) → HasValue x s a c → isNan x ≡ false
 unfolding isNan
 valued nan s a c v = absurd v
 valued (inf t) s a c v = absurd v

@@ -36,3 +36,7 @@ four64 = ofBits binary64 0x4010_0000_0000_0000
 -- 6
 abbrev pub six64 : Float
 six64 = ofBits binary64 0x4018_0000_0000_0000
+
+-- 2 ^ −46: 64 times EPSILON, the distance from 1 to the next f64
+abbrev pub epsilon64 : Float
+epsilon64 = ofBits binary64 0x3d10_0000_0000_0000

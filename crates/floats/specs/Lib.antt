@@ -1,5 +1,6 @@
 pub mod F64
 pub mod Pick
 pub mod Root
+pub mod Nearest
 pub mod Length
 pub mod Steps

@@ -1,5 +1,5 @@
 -- The square root of a float, rounded once: IEEE 754's squareRoot, to nearest, ties to even. It is computed on whole numbers;
--- proofs/Nearest.antt proves that no value of the format is nearer to the exact root.
+-- specs/Nearest.antt states that no value of the format is nearer to the exact root, and that no tie arises.
 use Prim.Native.Nat.{ℕ, zero, suc, _+_, _*_, _/_, _-_, _^_, _≤_, _<_, compare}
 use mathlib.Core.Bool.{false, cond}
 use lib.Dec.{leb, eqb}

@@ -1,4 +1,4 @@
--- What the steps of `root` promise each other; no promise of a public function speaks of these.
+-- What the steps of `root` promise: the number as a whole number, the digits of its root with the remainder, the root's pattern.
 use mathlib.Core.Path.{_≡_}
 use mathlib.Core.Bool.{false}
 use Prim.Native.Nat.{ℕ, _+_, _*_, _^_, _≤_, _<_}

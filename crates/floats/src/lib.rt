@@ -1,5 +1,5 @@
 // The leaves on f64: magnitude, min, max, the square root and the length of a pair, and the bit pattern of a number.
-mod square;
+pub mod square;
 
 ghost use mathlib.Core.Path.{_≡_};
 ghost use mathlib.Core.Bool.{false};

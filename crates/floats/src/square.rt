@@ -46,7 +46,8 @@ fn guess(a: u64) -> u64
 
 // The largest r with r * r <= a. A step of Newton's iteration is never below it, and from so near a guess it is the root
 // or one more, so the loop turns at most once.
-fn whole_root(a: u64) -> u64
+// Rules out: one more where a is not a square; a step of the iteration taken for the root as it is.
+pub fn whole_root(a: u64) -> u64
     requires { ⌜ 2 ^ 52 ≤ a ⌝ }
     requires { ⌜ a < 2 ^ 54 ⌝ }
     ensures { λ r. ⌜ WholeRoot a r ⌝ }
@@ -61,7 +62,8 @@ fn whole_root(a: u64) -> u64
 
 // 26 more binary digits of the root of w * w + t. The quotient is a guess at them that is right or one too high: the
 // square of what was added, `owed`, is to be taken from the remainder, and where there is too little the root is one less.
-fn more_digits(w: u64, t: u64) -> Split
+// Rules out: a root one too high; the remainder of the first digits handed on as that of all.
+pub fn more_digits(w: u64, t: u64) -> Split
     requires { ⌜ w < 2 ^ 27 ⌝ }
     requires { ⌜ 2 ^ 26 ≤ w ⌝ }
     requires { ⌜ t ≤ 2 * w ⌝ }
@@ -116,7 +118,9 @@ fn scale_normal(b: u64) -> Scaled
     }
 }
 
-fn scale(b: u64) -> Scaled
+// The pattern b, scaled: a whole number whose root has the digits of the root, and how far it was moved.
+// Rules out: an odd exponent halved as if it were even; a subnormal read with the leading digit of a normal number.
+pub fn scale(b: u64) -> Scaled
     requires { ⌜ 0 < b ⌝ }
     requires { ⌜ b < 0x7ff0_0000_0000_0000 ⌝ }
     ensures { λ r. ⌜ Scaling b (r .a) (r .h) ⌝ }

@@ -1,4 +1,4 @@
 pub mod Answers
 pub mod Surveys
 pub mod WorkLists
-pub mod Turned
+pub mod TurnFaces

@@ -15,13 +15,13 @@ use Rattle.flat.specs.Points.{Point, verticesOf}
 use Rattle.cut.specs.Cut.{cutOf}
 use Rattle.cut.proofs.Facts.{cut-room}
 use Rattle.cell.specs.Faces.{facesFrom, facesOf, rises}
-use Rattle.cell.specs.Refusals.{Sound}
+use Rattle.cell.specs.Steps.{Sound}
 use Rattle.cell.proofs.Faces.{rises-le, length-faces}
 use Rattle.volume.specs.Triangles.{trianglesOf, isShort, shortOf}
 use Rattle.inside.specs.Inside.{holds}
 use Rattle.refusals.specs.Refusals.{surveyRefusal}
 use Rattle.geometry.specs.Survey.{surveyOf, surveyAnswer}
-use Rattle.geometry.specs.declared.Survey.{Survey}
+use Rattle.geometry.specs.declared.Findings.{Findings}
 use Rattle.geometry.specs.declared.Surveyed.{Surveyed}
 use Rattle.refusals.proofs.Refusals.{survey-sound, few-query-points}
 
@@ -44,7 +44,7 @@ triangles-few vs p c (e ∷ es) t =
     rw (length-append (cutOf vs (slice p e c) .triangles) (trianglesOf vs (facesFrom e c es)))
     (omega (arith, triangles-few vs e c es rest, cut-room vs (slice p e c), length-slice p e c (rises-le e es (length c) rest)))
 
-pub record Small (s : Survey) : Type 0 where
+pub record Small (s : Findings) : Type 0 where
   pub triangles : s .triangles ≤ 2048
   pub short : s .short ≤ 256
   pub contained : s .contained ≤ 256
@@ -60,7 +60,7 @@ module _ (coords : List Float) (corners ends : List ℕ) (queries : List Float) 
         contained = omega (arith, count-few (holds (verticesOf coords) (facesOf corners ends)) (verticesOf queries), few-query-points coords corners ends queries z);
       }
 
-  pub survey-small : (s : Survey) → surveyAnswer coords corners ends queries ≡ Surveyed.Is s → Small s
+  pub survey-small : (s : Findings) → surveyAnswer coords corners ends queries ≡ Surveyed.Is s → Small s
   unfolding surveyAnswer
   survey-small s e = go (eqb (surveyRefusal coords corners ends queries) 0) refl e
     where

@@ -1,57 +1,85 @@
--- What clipping and the overlaps answer, and what stands in both work lists afterwards.
+-- What clipping and the overlaps answer, and what then stands in the first work list and in the second: both are as they were where a
+-- check refuses.
 use Prim.Native.Nat.{ℕ}
-use mathlib.Core.Path.{_≡_}
 use mathlib.Core.Bool.{true, false}
-use mathlib.Core.List.{List, []}
-use lib.Dec.{eqb}
-use lib.ListN.{length, getD, replicate}
+use mathlib.Core.List.{List}
+use lib.ListN.{length, replicate}
 use lib.Ieee.{Float}
-use Rattle.places.specs.Loops.{pick}
 use Rattle.places.specs.Stored.{inPairs}
 use Rattle.floats.specs.F64.{zero64}
 use Rattle.flat.specs.Points.{verticesOf, cornersOf}
 use Rattle.cell.specs.Faces.{facesOf}
 use Rattle.planes.specs.Planes.{inFours}
-use Rattle.work.specs.declared.Clipped.{Clipped}
-use Rattle.work.specs.declared.Measured.{Measured}
-use Rattle.work.specs.Work.{Outcome, shorterOf, answerOf, listAfter}
+use Rattle.work_lists.specs.declared.Left as left
+use Rattle.work_lists.specs.declared.Sum as sum
+use Rattle.work_lists.specs.WorkLists.{Outcome, shorterOf, answerOf, listAfter}
 use Rattle.clip.specs.Clip.{clipFaceOf}
-use Rattle.planar.specs.Planar.{clipConvexOf}
+use Rattle.planar.specs.Planar.{clipConvexOf, areaAnswer}
 use Rattle.overlap.specs.Overlap.{intersectionOf}
+use Rattle.refusals.specs.Refusals.{clipRefusal, planarRefusal, overlapRefusal}
 use Rattle.geometry.specs.declared.Number.{Number}
-use Rattle.geometry.specs.Answers.{listOr}
+use Rattle.geometry.specs.declared.Clipped.{Clipped}
+use Rattle.geometry.specs.Answers.{answered}
+use Rattle.geometry.specs.Cells.{faceNumbered}
 
--- what is left, or the refusal
-unfoldable pub clippedOr : ℕ → Outcome → Clipped
-clippedOr refusal left = pick (eqb refusal 0) (answerOf left) (Clipped.Refused refusal)
+-- the answer, and what then stands in both work lists
+abbrev pub Clipping : Type 0
+Clipping = Clipped × List Float × List Float
 
--- a clipping of which this is left: the answer, and both work lists, which are as they were where a check refuses
-pub record ClippedTo (refusal : ℕ) (left : Outcome) (r : Clipped) (first second first′ second′ : List Float) : Type 0 where
-  pub answer : r ≡ clippedOr refusal left
-  pub in-first : first′ ≡ listOr refusal (listAfter left false (length first)) first
-  pub in-second : second′ ≡ listOr refusal (listAfter left true (length second)) second
+abbrev pub Measure : Type 0
+Measure = Number × List Float × List Float
 
--- a measure of what is left: the answer, and +0 in every number of both work lists, which are as they were where a check refuses
-pub record MeasuredAs (refusal : ℕ) (measure r : Number) (first second first′ second′ : List Float) : Type 0 where
-  pub answer : r ≡ pick (eqb refusal 0) measure (Number.Refused refusal)
-  pub in-first : first′ ≡ listOr refusal (replicate (length first) zero64) first
-  pub in-second : second′ ≡ listOr refusal (replicate (length second) zero64) second
+-- what is left, as an entry answers it: no room is refusal 6
+abbrev pub clippedAnswer : left.Left → Clipped
+clippedAnswer left.Left.Nothing = Clipped.Nothing
+clippedAnswer (left.Left.Outline n second) = Clipped.Outline n second
+clippedAnswer left.Left.NoRoom = Clipped.Refused 6
 
--- clip_face: what planes leave of the face k of a cell, with room for so many points as the shorter work list holds
-unfoldable pub faceLeft : List Float → List ℕ → List ℕ → ℕ → List Float → Float → List Float → List Float → Outcome
-faceLeft coords corners ends k planes eps first second =
-    clipFaceOf (shorterOf (length (verticesOf first)) (length (verticesOf second))) eps (inFours planes) (cornersOf (verticesOf coords) (getD (facesOf corners ends) k []))
+-- a sum over what is left, as an entry answers it: no room is refusal 6
+abbrev pub numberOf : sum.Sum → Number
+numberOf (sum.Sum.Is x) = Number.Is x
+numberOf sum.Sum.NoRoom = Number.Refused 6
 
--- clip_convex: what the edges of an outline of the plane leave of another, with the same room
-unfoldable pub outlineLeft : List Float → List Float → List Float → List Float → Outcome
-outlineLeft subject clip first second = clipConvexOf (shorterOf (length (inPairs first)) (length (inPairs second))) (inPairs subject) (inPairs clip)
+-- a clipping of which this is left: it is shown in the work list where it ended, and every other number of both lists is +0
+abbrev pub clippingOf : ℕ → Outcome → List Float → List Float → Clipping
+clippingOf refusal o first second =
+    answered refusal (clippedAnswer (answerOf o), listAfter o false (length first), listAfter o true (length second))
+    (λ why. (Clipped.Refused why, first, second))
 
--- convex_intersection_volume: the overlap of two cells, with the room for an outline in space
-unfoldable pub cellsOverlap : List Float → List ℕ → List ℕ → List Float → List ℕ → List ℕ → List Float → List Float → Measured
-cellsOverlap coords corners ends others otherCorners otherEnds first second =
-    intersectionOf (shorterOf (length (verticesOf first)) (length (verticesOf second))) (verticesOf coords) (facesOf corners ends) (verticesOf others) (facesOf otherCorners otherEnds)
+-- a measure of what is left: every number of both lists is then +0
+abbrev pub measureOf : ℕ → sum.Sum → List Float → List Float → Measure
+measureOf refusal s first second =
+    answered refusal (numberOf s, replicate (length first) zero64, replicate (length second) zero64)
+    (λ why. (Number.Refused why, first, second))
 
--- a measure, or that there is no room, as a number is answered
-abbrev pub measuredNumber : Measured → Number
-measuredNumber (Measured.Is x) = Number.Is x
-measuredNumber (Measured.Refused k) = Number.Refused k
+-- how many points of space, and of the plane, the shorter work list holds
+abbrev pub roomInSpace : List Float → List Float → ℕ
+roomInSpace first second = shorterOf (length (verticesOf first)) (length (verticesOf second))
+
+abbrev pub roomInPlane : List Float → List Float → ℕ
+roomInPlane first second = shorterOf (length (inPairs first)) (length (inPairs second))
+
+-- clip_face: what planes leave of the face k of a cell
+unfoldable pub clipFaceAnswer : List Float → List ℕ → List ℕ → ℕ → List Float → Float → List Float → List Float → Clipping
+clipFaceAnswer coords corners ends k planes eps first second =
+    let o = clipFaceOf (roomInSpace first second) eps (inFours planes) (cornersOf (verticesOf coords) (faceNumbered corners ends k)) in
+    clippingOf (clipRefusal coords corners ends k planes first second) o first second
+
+-- clip_convex: what the edges of an outline of the plane leave of another
+unfoldable pub clipConvexAnswer : List Float → List Float → List Float → List Float → Clipping
+clipConvexAnswer subject clip first second =
+    let o = clipConvexOf (roomInPlane first second) (inPairs subject) (inPairs clip) in
+    clippingOf (planarRefusal subject clip first second) o first second
+
+-- convex_intersection_area: the area of what is left
+unfoldable pub overlapAreaAnswer : List Float → List Float → List Float → List Float → Measure
+overlapAreaAnswer subject clip first second =
+    let area = areaAnswer (clipConvexOf (roomInPlane first second) (inPairs subject) (inPairs clip)) in
+    measureOf (planarRefusal subject clip first second) area first second
+
+-- convex_intersection_volume: the volume that two convex cells share
+unfoldable pub overlapAnswer : List Float → List ℕ → List ℕ → List Float → List ℕ → List ℕ → List Float → List Float → Measure
+overlapAnswer coords corners ends coords2 corners2 ends2 first second =
+    let room = roomInSpace first second in
+    let volume = intersectionOf room (verticesOf coords) (facesOf corners ends) (verticesOf coords2) (facesOf corners2 ends2) in
+    measureOf (overlapRefusal coords corners ends coords2 corners2 ends2 first second) volume first second

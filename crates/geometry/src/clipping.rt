@@ -1,8 +1,30 @@
-// Clipping and the overlaps, which work in two lent lists: clipping goes from one to the other and back, and shows what is left in the one where it ended.
+// Clipping and the overlaps, which work in two lent lists: clipping goes from one to the other and back,
+// and shows what is left in the one where it ended.
 ghost use mathlib.Core.Path.{_≡_};
-ghost use Rattle.refusals.specs.Refusals.{clipRefusal, planarRefusal, overlapRefusal};
-ghost use Rattle.planar.specs.Planar.{areaAnswer};
-ghost use Rattle.geometry.specs.Clipping.{ClippedTo, MeasuredAs, faceLeft, outlineLeft, cellsOverlap, measuredNumber};
+ghost use Rattle.places.specs.Lent.{old, new};
+ghost use Rattle.geometry.specs.Clipping.{clippedAnswer, numberOf, clipFaceAnswer, clipConvexAnswer, overlapAreaAnswer};
+ghost use Rattle.geometry.specs.Clipping.{overlapAnswer};
+
+// What is left as an entry answers it: the paper's number for 'no room' is 6.
+fn clipped(left: work_lists::Left) -> crate::Clipped
+    ensures { λ r. ⌜ r ≡ clippedAnswer left ⌝ }
+{
+    match left {
+        work_lists::Left::Nothing => crate::Clipped::Nothing,
+        work_lists::Left::Outline(n, in_second) => crate::Clipped::Outline(n, in_second),
+        work_lists::Left::NoRoom => crate::Clipped::Refused(6),
+    }
+}
+
+// A sum over what is left, likewise.
+fn number(sum: work_lists::Sum) -> crate::Number
+    ensures { λ r. ⌜ r ≡ numberOf sum ⌝ }
+{
+    match sum {
+        work_lists::Sum::Is(x) => crate::Number::Is(x),
+        work_lists::Sum::NoRoom => crate::Number::Refused(6),
+    }
+}
 
 // The face with a number clipped by planes, which are stored in fours, normal first, and are taken as they are.
 // Ruled out: only the first plane applied; a refusal 6 that leaves what it wrote in the work lists.
@@ -15,15 +37,16 @@ pub fn clip_face(
     eps: f64,
     first: &mut [f64],
     second: &mut [f64],
-) -> work::Clipped
-    ensures { λ r. ⌜ ClippedTo (clipRefusal (now (coords .entry)) (now (corners .entry)) (now (ends .entry)) face (now (planes .entry)) (now (first .entry)) (now (second .entry))) (faceLeft (now (coords .entry)) (now (corners .entry)) (now (ends .entry)) face (now (planes .entry)) eps (now (first .entry)) (now (second .entry))) r (now (first .entry)) (now (second .entry)) (now (first .exit)) (now (second .exit)) ⌝ }
+) -> crate::Clipped
+    ensures { λ r. ⌜ (r, new first, new second) ≡ clipFaceAnswer (old coords) (old corners) (old ends) face (old planes) eps
+        (old first) (old second) ⌝ }
 {
     let why = refusals::clip_refusal(coords, corners, ends, face, planes, first, second);
     if why != 0 {
-        return work::Clipped::Refused(why);
+        return crate::Clipped::Refused(why);
     }
     let part = cell::face_by_number(corners, ends, face as usize);
-    clip::clip_face_shown(coords, part, planes, eps, first, second)
+    clipped(clip::clip_face_shown(coords, part, planes, eps, first, second))
 }
 
 // An outline of the plane clipped by the edges of another.
@@ -33,24 +56,14 @@ pub fn clip_convex(
     clip: &[f64],
     first: &mut [f64],
     second: &mut [f64],
-) -> work::Clipped
-    ensures { λ r. ⌜ ClippedTo (planarRefusal (now (subject .entry)) (now (clip .entry)) (now (first .entry)) (now (second .entry))) (outlineLeft (now (subject .entry)) (now (clip .entry)) (now (first .entry)) (now (second .entry))) r (now (first .entry)) (now (second .entry)) (now (first .exit)) (now (second .exit)) ⌝ }
+) -> crate::Clipped
+    ensures { λ r. ⌜ (r, new first, new second) ≡ clipConvexAnswer (old subject) (old clip) (old first) (old second) ⌝ }
 {
     let why = refusals::planar_refusal(subject, clip, first, second);
     if why != 0 {
-        return work::Clipped::Refused(why);
+        return crate::Clipped::Refused(why);
     }
-    planar::clip_convex_shown(subject, clip, first, second)
-}
-
-// A measure as a number is answered.
-fn measured_number(a: work::Measured) -> crate::Number
-    ensures { λ r. ⌜ r ≡ measuredNumber a ⌝ }
-{
-    match a {
-        work::Measured::Is(x) => crate::Number::Is(x),
-        work::Measured::Refused(k) => crate::Number::Refused(k),
-    }
+    clipped(planar::clip_convex_shown(subject, clip, first, second))
 }
 
 // The area of what is left of an outline of the plane clipped by the edges of another; both work lists are then +0.
@@ -61,15 +74,15 @@ pub fn convex_intersection_area(
     first: &mut [f64],
     second: &mut [f64],
 ) -> crate::Number
-    ensures { λ r. ⌜ MeasuredAs (planarRefusal (now (subject .entry)) (now (clip .entry)) (now (first .entry)) (now (second .entry))) (measuredNumber (areaAnswer (outlineLeft (now (subject .entry)) (now (clip .entry)) (now (first .entry)) (now (second .entry))))) r (now (first .entry)) (now (second .entry)) (now (first .exit)) (now (second .exit)) ⌝ }
+    ensures { λ r. ⌜ (r, new first, new second) ≡ overlapAreaAnswer (old subject) (old clip) (old first) (old second) ⌝ }
 {
     let why = refusals::planar_refusal(subject, clip, first, second);
     if why != 0 {
         return crate::Number::Refused(why);
     }
     let area = planar::convex_intersection_area(subject, clip, first, second);
-    work::settle(first, second, 0, false);
-    measured_number(area)
+    work_lists::settle(first, second, 0, false);
+    number(area)
 }
 
 // The volume of the overlap of two convex cells; both work lists are then +0.
@@ -84,7 +97,8 @@ pub fn convex_intersection_volume(
     first: &mut [f64],
     second: &mut [f64],
 ) -> crate::Number
-    ensures { λ r. ⌜ MeasuredAs (overlapRefusal (now (coords .entry)) (now (corners .entry)) (now (ends .entry)) (now (coords2 .entry)) (now (corners2 .entry)) (now (ends2 .entry)) (now (first .entry)) (now (second .entry))) (measuredNumber (cellsOverlap (now (coords .entry)) (now (corners .entry)) (now (ends .entry)) (now (coords2 .entry)) (now (corners2 .entry)) (now (ends2 .entry)) (now (first .entry)) (now (second .entry)))) r (now (first .entry)) (now (second .entry)) (now (first .exit)) (now (second .exit)) ⌝ }
+    ensures { λ r. ⌜ (r, new first, new second) ≡ overlapAnswer (old coords) (old corners) (old ends)
+        (old coords2) (old corners2) (old ends2) (old first) (old second) ⌝ }
 {
     let why = refusals::overlap_refusal(
         coords,
@@ -109,5 +123,5 @@ pub fn convex_intersection_volume(
         first,
         second,
     );
-    measured_number(sum)
+    number(sum)
 }

@@ -1,6 +1,6 @@
 // The fixed shapes: tetrahedron, wedge and hexahedron, their corners passed as they are. Any bits, nothing refused.
 ghost use mathlib.Core.Path.{_≡_};
-ghost use Rattle.shapes.specs.Shapes.{tetVolumeOf, wedgeVolumeOf, hexVolumeOf, tetContainsOf, wedgeContainsOf, hexContainsOf};
+ghost use Rattle.geometry.specs.Leaves.{tetVolumeOf, wedgeVolumeOf, hexVolumeOf, tetContainsOf, wedgeContainsOf, hexContainsOf};
 
 // The signed volume of a tetrahedron.
 // Ruled out: the magnitude of the volume; the edges taken from d.

@@ -12,8 +12,10 @@ use borrow.Author.Tests.{eq-eqb, ne-eqb, eqb-false}
 use Rattle.places.specs.Loops.{pick, foldList}
 use Rattle.places.proofs.Loops.{drop-more}
 use Rattle.places.proofs.Lists.{each-nil, each-cons, each-head, each-tail}
-use Rattle.flat.specs.Points.{Point, Inside}
-use Rattle.inside.specs.Inside.{faceEnd, markedFrom, markedFaces, beforeMark, MarkedInside, crossMarked, phedContainsOf}
+use Rattle.flat.specs.Points.{Point}
+use Rattle.flat.specs.Steps.{Inside}
+use Rattle.inside.specs.Inside.{faceEnd, markedFrom, markedFaces, crossMarked, phedContainsOf}
+use Rattle.inside.specs.Steps.{beforeMark, MarkedInside}
 
 -- ---- how many corners stand before the first mark, from place i on
 module _ (cs : List ℕ) (i : ℕ) where
@@ -73,10 +75,10 @@ module _ {vs : List Point} {p : Point} where
   unfolding phedContainsOf
   mark-start = record { so = refl }
 
-  pub mark-turn : {cs : List ℕ} {whole : Bool} {i e : ℕ} {s s′ : Bool} → Marking vs p cs whole i s → e ≡ i + beforeMark (drop i cs)
+  pub mark-next : {cs : List ℕ} {whole : Bool} {i e : ℕ} {s s′ : Bool} → Marking vs p cs whole i s → e ≡ i + beforeMark (drop i cs)
       → s′ ≡ crossMarked vs p (take (e - i) (drop i cs)) s → Marking vs p cs whole (e + 1) s′
   unfolding foldList
-  mark-turn {cs} {whole} {i} {e} {s} {s′} m q g =
+  mark-next {cs} {whole} {i} {e} {s} {s′} m q g =
       let n = beforeMark (drop i cs) in
       let k : e - i ≡ n = omega arith in
       let d : drop 1 (drop n (drop i cs)) ≡ drop (e + 1) cs = rw (drop-drop n i cs, drop-drop 1 (i + n) cs, q) in

@@ -9,10 +9,10 @@ use borrow.Author.Tests.{eqb-true, lt-ltb}
 use lib.Dec.{T, eqb, ltb}
 use lib.IntN.{ℤ, pos, negsuc}
 use lib.Ieee.{Float, Format, nan, inf, fin, binary64, ofBits, mul, round, units, odd, size, low, emax, prec, isNan, lt, le, eq, up, down}
-use Rattle.floats.specs.F64.{_*f_, zero64}
+use Rattle.floats.specs.F64.{_*f_, zero64, epsilon64}
 use Rattle.floats.specs.Pick.{magnitudeOf, largestOf}
 use Rattle.flat.specs.Points.{Point, at}
-use Rattle.inside.specs.Ray.{slack64, alongOf}
+use Rattle.inside.specs.Ray.{alongOf}
 
 -- the sign is clear and it is no NaN
 plain : Float → Bool
@@ -63,7 +63,7 @@ round-plain : (f : Format) (num den : ℕ) → T (plain (round f false num den))
 unfolding round
 round-plain f num den = units-plain f _ _
 
-slack-plain : (v : Float) → T (plain v) → T (plain (slack64 *f v))
+slack-plain : (v : Float) → T (plain v) → T (plain (epsilon64 *f v))
 unfolding plain mul round ofBits
 slack-plain nan h = absurd h
 slack-plain (inf true) h = absurd h

@@ -1,12 +1,10 @@
 -- A cell contains a point when the crossings are odd; and the same for faces in one list, each ended by 4,294,967,295.
-use Prim.Native.Nat.{ℕ, suc, _<_}
+use Prim.Native.Nat.{ℕ}
 use mathlib.Core.Bool.{Bool, false, not}
-use mathlib.Core.Logic.{_≢_}
 use mathlib.Core.List.{List, [], _∷_, _++_}
 use lib.Dec.{leb, eqb}
 use lib.ListN.{length}
 use Rattle.places.specs.Loops.{pick, foldList}
-use Rattle.places.specs.Lists.{Each}
 use Rattle.flat.specs.Points.{Point}
 use Rattle.inside.specs.Ray.{rayCrosses}
 
@@ -37,15 +35,6 @@ markedFrom face (c ∷ cs) =
 
 abbrev pub markedFaces : List ℕ → List (List ℕ)
 markedFaces cs = markedFrom [] cs
-
--- how many corners stand before the first mark
-unfoldable pub beforeMark : List ℕ → ℕ
-beforeMark [] = 0
-beforeMark (c ∷ cs) = pick (eqb c faceEnd) 0 (suc (beforeMark cs))
-
--- every entry that is no mark is the number of a vertex
-abbrev pub MarkedInside : List Point → List ℕ → Type 0
-MarkedInside vs cs = Each 0 (λ c. c ≢ faceEnd → c < length vs) cs
 
 -- a face under 3 corners is skipped
 unfoldable pub crossMarked : List Point → Point → List ℕ → Bool → Bool

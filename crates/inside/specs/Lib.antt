@@ -1,2 +1,3 @@
 pub mod Ray
 pub mod Inside
+pub mod Steps

@@ -3,17 +3,13 @@ use Prim.Native.Nat.{ℕ}
 use mathlib.Core.Bool.{Bool, true, false, not, _&&_}
 use mathlib.Core.List.{List, [], _∷_}
 use lib.ListN.{getD}
-use lib.Ieee.{Float, binary64, ofBits, lt, le}
+use lib.Ieee.{Float, lt, le}
 use Rattle.places.specs.Loops.{pick}
 use Rattle.places.specs.Ring.{foldSides}
-use Rattle.floats.specs.F64.{_+f_, _-f_, _*f_, _/f_, zero64}
+use Rattle.floats.specs.F64.{_+f_, _-f_, _*f_, _/f_, zero64, epsilon64}
 use Rattle.floats.specs.Pick.{magnitudeOf, largestOf}
 use Rattle.flat.specs.Points.{Point, at, cornersOf}
 use Rattle.flat.specs.Flat.{newellOf, axisOf, project2Of, pointsOf}
-
--- 64 · EPSILON, which is 2 ^ −46
-abbrev pub slack64 : Float
-slack64 = ofBits binary64 0x3d10_0000_0000_0000
 
 -- one of two tests holds and the other does not
 abbrev pub differ : Bool → Bool → Bool
@@ -42,11 +38,11 @@ inOutline p ps = foldSides (passSide p) ps false
 -- ---- the ray and a face, whose corners are at `cs`
 -- the normal is as good as at right angles to the ray: |n[0]| ≤ 64·EPSILON·max|n|
 unfoldable pub alongOf : Point → Bool
-alongOf n = le (magnitudeOf (at n 0)) (slack64 *f largestOf (largestOf (magnitudeOf (at n 0)) (magnitudeOf (at n 1))) (magnitudeOf (at n 2)))
+alongOf n = le (magnitudeOf (at n 0)) (epsilon64 *f largestOf (largestOf (magnitudeOf (at n 0)) (magnitudeOf (at n 1))) (magnitudeOf (at n 2)))
 
 -- how far along the ray from p the plane of normal n through v is
-unfoldable pub reachOf : Point → Point → Point → Float
-reachOf p n v = (at n 0 *f (at v 0 -f at p 0) +f at n 1 *f (at v 1 -f at p 1) +f at n 2 *f (at v 2 -f at p 2)) /f at n 0
+unfoldable pub distanceAhead : Point → Point → Point → Float
+distanceAhead p n v = (at n 0 *f (at v 0 -f at p 0) +f at n 1 *f (at v 1 -f at p 1) +f at n 2 *f (at v 2 -f at p 2)) /f at n 0
 
 -- the point at that distance along the ray
 abbrev pub ahead : Point → Float → Point
@@ -56,6 +52,6 @@ ahead p t = (at p 0 +f t) ∷ at p 1 ∷ at p 2 ∷ []
 unfoldable pub rayCrosses : List Point → Point → List ℕ → Bool
 rayCrosses vs p face =
     let n = newellOf (cornersOf vs face) in
-    let t = reachOf p n (getD (cornersOf vs face) 0 []) in
+    let t = distanceAhead p n (getD (cornersOf vs face) 0 []) in
     let hit = inOutline (project2Of (ahead p t) (axisOf n)) (pointsOf vs (axisOf n) face) in
     pick (alongOf n) false (pick (le t zero64) false hit)

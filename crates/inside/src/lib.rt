@@ -2,16 +2,19 @@
 ghost use mathlib.Core.Path.{_≡_};
 ghost use Prim.Native.Nat.{ℕ, _+_, _<_, _≤_};
 ghost use lib.ListN.{length, drop};
-ghost use Rattle.flat.specs.Points.{verticesOf, Inside};
+ghost use Rattle.places.specs.Limits.{mostMarkedCorners};
+ghost use Rattle.flat.specs.Points.{verticesOf};
+ghost use Rattle.flat.specs.Steps.{Inside};
 ghost use Rattle.flat.specs.Flat.{pointsOf};
 ghost use Rattle.cell.specs.Faces.{facesOf};
-ghost use Rattle.cell.specs.Refusals.{Sound};
-ghost use Rattle.inside.specs.Ray.{meetsAt, passes, passSide, inOutline, alongOf, reachOf, rayCrosses};
+ghost use Rattle.cell.specs.Steps.{Sound};
+ghost use Rattle.inside.specs.Ray.{meetsAt, passes, passSide, inOutline, alongOf, distanceAhead, rayCrosses};
 ghost use Rattle.places.specs.Loops.{pick, countOf};
-ghost use Rattle.inside.specs.Inside.{crossFace, crossMarked, containsOf, holds, MarkedInside, beforeMark, phedContainsOf};
+ghost use Rattle.inside.specs.Inside.{crossFace, crossMarked, containsOf, holds, phedContainsOf};
+ghost use Rattle.inside.specs.Steps.{MarkedInside, beforeMark};
 
 // Where the side from a to b meets the height of p.
-pub fn meets_at(p: [f64; 2], a: [f64; 2], b: [f64; 2]) -> f64
+fn meets_at(p: [f64; 2], a: [f64; 2], b: [f64; 2]) -> f64
     ensures { λ r. ⌜ r ≡ meetsAt p a b ⌝ }
 {
     let t = (p[1] - a[1]) / (b[1] - a[1]);
@@ -19,7 +22,7 @@ pub fn meets_at(p: [f64; 2], a: [f64; 2], b: [f64; 2]) -> f64
 }
 
 // Whether the side from a to b passes the height of p, and to the right of p.
-pub fn passes(p: [f64; 2], a: [f64; 2], b: [f64; 2]) -> bool
+fn passes(p: [f64; 2], a: [f64; 2], b: [f64; 2]) -> bool
     ensures { λ r. ⌜ r ≡ passes p a b ⌝ }
 {
     if (a[1] > p[1]) != (b[1] > p[1]) {
@@ -30,14 +33,14 @@ pub fn passes(p: [f64; 2], a: [f64; 2], b: [f64; 2]) -> bool
 }
 
 // A side that passes turns the answer round.
-pub fn pass_side(p: [f64; 2], a: [f64; 2], b: [f64; 2], inside: bool) -> bool
+fn pass_side(p: [f64; 2], a: [f64; 2], b: [f64; 2], inside: bool) -> bool
     ensures { λ r. ⌜ r ≡ passSide p a b inside ⌝ }
 {
     if passes(p, a, b) { !inside } else { inside }
 }
 
 // Whether p is in the outline of a face, seen along an axis. A side's end is the next one's start, so each corner is read once.
-pub fn in_outline(coords: &[f64], face: &[u32], axis: usize, p: [f64; 2]) -> bool
+fn in_outline(coords: &[f64], face: &[u32], axis: usize, p: [f64; 2]) -> bool
     requires { ⌜ Inside (verticesOf (now coords)) (now face) ⌝ }
     ensures { λ r. ⌜ r ≡ inOutline p (pointsOf (verticesOf (now (coords .entry))) axis (now (face .entry))) ⌝ }
 {
@@ -59,7 +62,7 @@ pub fn in_outline(coords: &[f64], face: &[u32], axis: usize, p: [f64; 2]) -> boo
 }
 
 // Whether a normal is as good as at right angles to the ray; that is settled at once where its first part is 0, as in a box. The constant is 2^-46, which is 64 times the distance from 1 to the next f64.
-pub fn along(n: [f64; 3]) -> bool
+fn along(n: [f64; 3]) -> bool
     ensures { λ r. ⌜ r ≡ alongOf n ⌝ }
 {
     let x = floats::magnitude(n[0]);
@@ -72,15 +75,15 @@ pub fn along(n: [f64; 3]) -> bool
 }
 
 // How far along the ray from p the plane of normal n through v is.
-pub fn reach(p: [f64; 3], n: [f64; 3], v: [f64; 3]) -> f64
-    ensures { λ r. ⌜ r ≡ reachOf p n v ⌝ }
+fn distance_ahead(p: [f64; 3], n: [f64; 3], v: [f64; 3]) -> f64
+    ensures { λ r. ⌜ r ≡ distanceAhead p n v ⌝ }
 {
     (n[0] * (v[0] - p[0]) + n[1] * (v[1] - p[1]) + n[2] * (v[2] - p[2])) / n[0]
 }
 
 // Whether the ray from p along +x crosses a face. A face of no corners has none to measure from, and its normal is three zeros.
 // Ruled out: a program that lets t = 0 cross, so that a point on the far side is inside, and one that always drops x for the outline.
-pub fn ray_crosses_face(coords: &[f64], face: &[u32], p: [f64; 3]) -> bool
+fn ray_crosses_face(coords: &[f64], face: &[u32], p: [f64; 3]) -> bool
     requires { ⌜ Inside (verticesOf (now coords)) (now face) ⌝ }
     ensures { λ r. ⌜ r ≡ rayCrosses (verticesOf (now (coords .entry))) p (now (face .entry)) ⌝ }
 {
@@ -92,7 +95,7 @@ pub fn ray_crosses_face(coords: &[f64], face: &[u32], p: [f64; 3]) -> bool
         return false;
     }
     let v = flat::space::vertex_at(coords, face, 0);
-    let t = reach(p, n, v);
+    let t = distance_ahead(p, n, v);
     if t <= 0.0 {
         return false;
     }
@@ -102,7 +105,7 @@ pub fn ray_crosses_face(coords: &[f64], face: &[u32], p: [f64; 3]) -> bool
 }
 
 // A face that is crossed turns the answer round.
-pub fn cross_face(coords: &[f64], face: &[u32], p: [f64; 3], inside: bool) -> bool
+fn cross_face(coords: &[f64], face: &[u32], p: [f64; 3], inside: bool) -> bool
     requires { ⌜ Inside (verticesOf (now coords)) (now face) ⌝ }
     ensures { λ r. ⌜ r ≡ crossFace (verticesOf (now (coords .entry))) p (now (face .entry)) inside ⌝ }
 {
@@ -133,7 +136,7 @@ pub fn contains(coords: &[f64], corners: &[u32], ends: &[u32], p: [f64; 3]) -> b
 }
 
 // Where the face that starts at a place ends: at the first mark from there on, or at the end of the list.
-pub fn face_end(cs: &[u32], start: usize) -> usize
+fn face_end(cs: &[u32], start: usize) -> usize
     requires { ⌜ start ≤ length (now cs) ⌝ }
     ensures { λ r. ⌜ r ≡ start + beforeMark (drop start (now (cs .entry))) ⌝ }
 {
@@ -148,7 +151,7 @@ pub fn face_end(cs: &[u32], start: usize) -> usize
 }
 
 // A face of a list with marks turns the answer round where it is crossed. Under 3 corners it is skipped.
-pub fn cross_marked(coords: &[f64], face: &[u32], p: [f64; 3], inside: bool) -> bool
+fn cross_marked(coords: &[f64], face: &[u32], p: [f64; 3], inside: bool) -> bool
     requires { ⌜ Inside (verticesOf (now coords)) (now face) ⌝ }
     ensures { λ r. ⌜ r ≡ crossMarked (verticesOf (now (coords .entry))) p (now (face .entry)) inside ⌝ }
 {
@@ -163,7 +166,7 @@ pub fn cross_marked(coords: &[f64], face: &[u32], p: [f64; 3], inside: bool) -> 
 // Ruled out: a program that stops at the first mark, and one that leaves out a last face with no mark.
 pub fn point_in_phed(coords: &[f64], cs: &[u32], p: [f64; 3]) -> bool
     requires { ⌜ MarkedInside (verticesOf (now coords)) (now cs) ⌝ }
-    requires { ⌜ length (now cs) ≤ 2304 ⌝ }
+    requires { ⌜ length (now cs) ≤ mostMarkedCorners ⌝ }
     ensures { λ r. ⌜ r ≡ phedContainsOf (verticesOf (now (coords .entry))) p (now (cs .entry)) ⌝ }
 {
     let mut inside = false;

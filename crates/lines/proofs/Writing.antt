@@ -25,7 +25,7 @@ then {b} {at} {xs} {m} {p} {ys} f g =
       ends = simp length-append (omega (arith, f .ends, g .ends));
     }
 
--- a turn of the loop that copies
+-- a step of the loop that copies
 pub sets-more : (l : List ℕ) (at : ℕ) (s : List ℕ) (i : ℕ) → i < length s → set (sets l at (take i s)) (at + i) (getD s i 0) ≡ sets l at (take (i + 1) s)
 sets-more l at s i h =
     let e : length (take i s) ≡ i = length-take-le i s (omega arith) in

@@ -3,7 +3,7 @@ use Prim.Native.Nat.{ℕ}
 use mathlib.Core.Bool.{Bool}
 use mathlib.Core.List.{List, [], _∷_, _++_}
 use lib.Ieee.{Float, binary64, toBits}
-use Rattle.geometry.specs.declared.Survey.{Survey}
+use Rattle.geometry.specs.declared.Findings.{Findings}
 use Rattle.lines.specs.Text.{decimalOf, hexOf, yesOrNo}
 
 -- `cell `
@@ -68,6 +68,6 @@ abbrev pub findingsText : Float → ℕ → List ℕ
 findingsText volume contained = text-vol ++ hexOf 16 (toBits binary64 volume) ++ (text-in ++ decimalOf contained) ++ feed
 
 -- the whole line of a cell that is not refused
-unfoldable pub cellLine : ℕ → ℕ → ℕ → Survey → List ℕ
+unfoldable pub cellLine : ℕ → ℕ → ℕ → Findings → List ℕ
 cellLine number verts faces s =
     countsText number verts faces (s .triangles) ++ shapeText (s .closed) (s .short) ++ findingsText (s .volume) (s .contained)

@@ -5,7 +5,7 @@ ghost use Prim.Native.Nat.{_+_, _≤_, _<_};
 ghost use lib.ListN.{length};
 ghost use Rattle.lines.specs.Text.{Put, decimalOf, digitOf, yesOrNo, hexOf};
 ghost use Rattle.lines.specs.Lines.{refusedLine, tailLine, countsText, shapeText, findingsText, cellLine};
-use geometry::Survey;
+use geometry::Findings;
 
 fn put_byte(out: &mut [u8], at: usize, b: u8) -> usize
     requires { ⌜ at < length (now out) ⌝ }
@@ -146,7 +146,7 @@ pub fn put_cell(
     number: u64,
     verts: usize,
     faces: usize,
-    s: Survey,
+    s: Findings,
 ) -> usize
     requires { ⌜ at + 256 ≤ length (now out) ⌝ }
     ensures { λ r. ⌜ Put (now (out .entry)) at (cellLine number verts faces s) (now (out .exit)) r ⌝ }

@@ -3,25 +3,26 @@ ghost use mathlib.Core.Path.{_≡_};
 ghost use Prim.Native.Nat.{ℕ, _<_, _≤_, _%_};
 ghost use lib.ListN.{length, getD, set};
 ghost use mathlib.Core.List.{[], _∷_, reverse};
-ghost use Rattle.places.specs.Lists.{swapped};
+ghost use Rattle.places.specs.Steps.{swapped, overPairs};
 ghost use Rattle.places.specs.Stored.{inPairs, joined};
-ghost use Rattle.flat.specs.Points.{plusOf, overOf, widenOf, Numbers, centroidOf, boundsOf};
+ghost use Rattle.flat.specs.Points.{plusOf, overOf, widenOf, centroidOf, boundsOf};
+ghost use Rattle.flat.specs.Steps.{Numbers};
 ghost use Rattle.flat.specs.Flat.{summedAreaOf, signedAreaOf, ccwOf};
 
 // Points of the plane: s + p, p with each coordinate divided by n, and a box, of which no coordinate is a NaN, widened so that p is in it.
-pub fn plus2(p: [f64; 2], s: [f64; 2]) -> [f64; 2]
+fn plus2(p: [f64; 2], s: [f64; 2]) -> [f64; 2]
     ensures { λ r. ⌜ r ≡ plusOf 2 p s ⌝ }
 {
     [s[0] + p[0], s[1] + p[1]]
 }
 
-pub fn over2(p: [f64; 2], n: f64) -> [f64; 2]
+fn over2(p: [f64; 2], n: f64) -> [f64; 2]
     ensures { λ r. ⌜ r ≡ overOf 2 p n ⌝ }
 {
     [p[0] / n, p[1] / n]
 }
 
-pub fn widen2(p: [f64; 2], b: [[f64; 2]; 2]) -> [[f64; 2]; 2]
+fn widen2(p: [f64; 2], b: [[f64; 2]; 2]) -> [[f64; 2]; 2]
     requires { ⌜ Numbers 2 b ⌝ }
     ensures { λ r. ⌜ r ≡ widenOf 2 p b ⌝ }
 {
@@ -45,10 +46,11 @@ pub fn pair(ps: &[f64], i: usize) -> [f64; 2]
     [places::num(ps, k), places::num(ps, k + 1)]
 }
 
-// The point (x, y) laid down at place i.
+// The point (x, y) laid down at place i. Here and below, a number that stands after the last point stays as it was.
 fn put_pair(ps: &mut [f64], i: usize, x: f64, y: f64)
     requires { ⌜ i < length (inPairs (now ps)) ⌝ }
-    ensures { λ _. ⌜ inPairs (now (ps .exit)) ≡ set (inPairs (now (ps .entry))) i (x ∷ y ∷ []) ⌝ }
+    ensures points { λ _. ⌜ inPairs (now (ps .exit)) ≡ set (inPairs (now (ps .entry))) i (x ∷ y ∷ []) ⌝ }
+    ensures over { λ _. ⌜ overPairs (now (ps .exit)) ≡ overPairs (now (ps .entry)) ⌝ }
 {
     let k = i * 2;
     ps[k] = x;
@@ -56,7 +58,7 @@ fn put_pair(ps: &mut [f64], i: usize, x: f64, y: f64)
 }
 
 // Twice the signed area.
-pub fn summed_area(ps: &[f64]) -> f64
+fn summed_area(ps: &[f64]) -> f64
     ensures { λ r. ⌜ r ≡ summedAreaOf (inPairs (now (ps .entry))) ⌝ }
 {
     let mut s = 0.0;
@@ -84,7 +86,8 @@ pub fn signed_area2(ps: &[f64]) -> f64
 fn swap_points(ps: &mut [f64], i: usize, j: usize)
     requires { ⌜ i < length (inPairs (now ps)) ⌝ }
     requires { ⌜ j < length (inPairs (now ps)) ⌝ }
-    ensures { λ _. ⌜ inPairs (now (ps .exit)) ≡ swapped [] i j (inPairs (now (ps .entry))) ⌝ }
+    ensures points { λ _. ⌜ inPairs (now (ps .exit)) ≡ swapped [] i j (inPairs (now (ps .entry))) ⌝ }
+    ensures over { λ _. ⌜ overPairs (now (ps .exit)) ≡ overPairs (now (ps .entry)) ⌝ }
 {
     let a = pair(ps, i);
     let b = pair(ps, j);
@@ -94,7 +97,8 @@ fn swap_points(ps: &mut [f64], i: usize, j: usize)
 
 // The points in the other order: each of the first half changes places with the one that is as far from the end.
 fn reverse_points(ps: &mut [f64])
-    ensures { λ _. ⌜ inPairs (now (ps .exit)) ≡ reverse (inPairs (now (ps .entry))) ⌝ }
+    ensures points { λ _. ⌜ inPairs (now (ps .exit)) ≡ reverse (inPairs (now (ps .entry))) ⌝ }
+    ensures over { λ _. ⌜ overPairs (now (ps .exit)) ≡ overPairs (now (ps .entry)) ⌝ }
 {
     let n = ps.len() / 2;
     let half = n / 2;

@@ -14,9 +14,10 @@ use Rattle.floats.specs.Pick.{largestOf}
 use Rattle.floats.specs.Root.{rootOf}
 use Rattle.floats.proofs.Monotone.{unsigned, largest-root, largest-keeps}
 use Rattle.flat.specs.Points.{Point, pointBy, plusOf, overOf, centroidOf}
-use Rattle.trim.specs.Doubled.{squareOf, dist3Of}
-use Rattle.trim.proofs.Surely.{square-fits, square-clear}
-use Rattle.overlap.specs.Tolerances.{farther, fartherSquare, radialOf}
+use Rattle.clip_step.specs.Doubled.{squareOf, dist3Of}
+use Rattle.clip_step.proofs.Surely.{square-fits, square-clear}
+use Rattle.overlap.specs.Tolerances.{farther, radialOf}
+use Rattle.overlap.specs.Steps.{fartherSquare}
 
 -- ---- the largest distance is the root of the largest square
 zero-root : rootOf binary64 zero64 ≡ zero64

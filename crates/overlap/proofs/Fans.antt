@@ -38,10 +38,10 @@ module _ {ref : Point} {ps : List Point} where
   pub fan-start : {a : Point} → 2 ≤ length ps → a ≡ minusOf 3 (getD ps 1 []) ref → Fanning ref (getD ps 0 []) ps (fanOf ref ps) 2 a zero64
   fan-start h q = record { some = omega arith; within = h; last = q; so = refl }
 
-  pub fan-turn : {p : Point} {whole : Float} {i : ℕ} {a b : Point} {v w : Float} → Fanning ref p ps whole i a v → i < length ps
+  pub fan-next : {p : Point} {whole : Float} {i : ℕ} {a b : Point} {v w : Float} → Fanning ref p ps whole i a v → i < length ps
       → b ≡ minusOf 3 (getD ps i []) ref → w ≡ v +f tripleOf (minusOf 3 p ref) a b → Fanning ref p ps whole (i + 1) b w
   unfolding foldPairs addFan
-  fan-turn {p} {i = i} {v = v} l h q e =
+  fan-next {p} {i = i} {v = v} l h q e =
       let back : i - 1 + 1 ≡ i = omega (arith, l .some) in
       let on : i + 1 - 1 ≡ i = omega arith in
       record {

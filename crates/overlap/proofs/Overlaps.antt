@@ -12,17 +12,17 @@ use Rattle.floats.specs.F64.{_+f_, zero64}
 use Rattle.flat.specs.Points.{Point}
 use Rattle.planes.specs.declared.Plane.{Plane}
 use Rattle.planes.specs.Planes.{planesOf}
-use Rattle.work.specs.Work.{Outcome, nothing, noRoom, outline}
+use Rattle.work_lists.specs.WorkLists.{Outcome, nothing, noRoom, outline}
 use Rattle.overlap.specs.declared.Measures.{Measures}
-use Rattle.work.specs.declared.Measured.{Measured}
+use Rattle.work_lists.specs.declared.Sum.{Sum}
 use Rattle.overlap.specs.Tolerances.{measuresOf}
-use Rattle.overlap.specs.Ready.{Scratch}
-use Rattle.overlap.specs.Overlap.{contributionOf, patchesOf, addedTo, magnitudeOfMeasured, overlapOf}
+use Rattle.overlap.specs.Steps.{Scratch}
+use Rattle.overlap.specs.Overlap.{contributionOf, patchesOf, addedTo, magnitudeOfSum, overlapOf}
 
 -- the outcomes of two cells, one after the other
-abbrev onward : Measured → (Float → Measured) → Measured
-onward (Measured.Is v) next = next v
-onward (Measured.Refused why) next = Measured.Refused why
+abbrev onward : Sum → (Float → Sum) → Sum
+onward (Sum.Is v) next = next v
+onward Sum.NoRoom next = Sum.NoRoom
 
 added-append : (ref : Point) (v : Float) (xs ys : List Outcome) → addedTo ref v (xs ++ ys) ≡ onward (addedTo ref v xs) (λ w. addedTo ref w ys)
 unfolding addedTo
@@ -32,18 +32,18 @@ added-append ref v (noRoom ∷ xs) ys = refl
 added-append ref v (outline s [] ∷ xs) ys = added-append ref v xs ys
 added-append ref v (outline s (p ∷ ps) ∷ xs) ys = added-append ref (v +f contributionOf ref (p ∷ ps)) xs ys
 
-module _ (room : ℕ) (vs : List Point) (faces : List (List ℕ)) (ws : List Point) (others : List (List ℕ)) {m : Measures} {own planes : List Plane} {s : Measured}
-    (q : m ≡ measuresOf vs ws) (e : own ≡ planesOf vs faces) (f : planes ≡ planesOf ws others)
+module _ (room : ℕ) (vs : List Point) (faces : List (List ℕ)) (ws : List Point) (otherFaces : List (List ℕ)) {m : Measures} {own planes : List Plane} {s : Sum}
+    (q : m ≡ measuresOf vs ws) (e : own ≡ planesOf vs faces) (f : planes ≡ planesOf ws otherFaces)
     (sum : s ≡ addedTo (m .reference) zero64 (patchesOf false room m vs faces planes)) where
   -- where the sum over the first cell's faces is refused
-  pub overlap-refused : {why : ℕ} → s ≡ Measured.Refused why → Measured.Refused why ≡ overlapOf room vs faces ws others
+  pub overlap-refused : s ≡ Sum.NoRoom → Sum.NoRoom ≡ overlapOf room vs faces ws otherFaces
   unfolding overlapOf
   overlap-refused g =
       rw (← q, ← f, added-append (m .reference) zero64 (patchesOf false room m vs faces planes), ← sum, g)
 
   -- where it is v, and t the sum that goes on from v over the second cell's
-  pub overlap-is : {v : Float} {t r : Measured} → s ≡ Measured.Is v → t ≡ addedTo (m .reference) v (patchesOf true room m ws others own) → r ≡ magnitudeOfMeasured t
-      → r ≡ overlapOf room vs faces ws others
+  pub overlap-is : {v : Float} {t r : Sum} → s ≡ Sum.Is v → t ≡ addedTo (m .reference) v (patchesOf true room m ws otherFaces own) → r ≡ magnitudeOfSum t
+      → r ≡ overlapOf room vs faces ws otherFaces
   unfolding overlapOf
   overlap-is g h k =
       rw (← q, ← f, ← e, added-append (m .reference) zero64 (patchesOf false room m vs faces planes), ← sum, g, ← h) k

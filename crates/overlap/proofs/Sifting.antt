@@ -1,4 +1,4 @@
--- The loop of others: planes that are not a face's own, laid down at the front of a list.
+-- The loop of `other_planes`: planes that are not a face's own, laid down at the front of a list.
 use mathlib.Core.Path.{_≡_, refl}
 use mathlib.Core.Bool.{true, false}
 use mathlib.Core.List.{List, [], _∷_}
@@ -9,14 +9,14 @@ use lib.Ieee.{Float}
 use Rattle.places.proofs.Loops.{drop-more}
 use Rattle.planes.specs.declared.Plane.{Plane}
 use Rattle.planes.specs.Planes.{sameSide}
-use Rattle.work.proofs.Filling.{Rest, rest-start, rest-more, rest-end, filled-one, filled-read}
-use Rattle.overlap.specs.Overlap.{othersOf}
+use Rattle.work_lists.proofs.Filling.{Rest, rest-start, rest-more, rest-end, filled-one, filled-read}
+use Rattle.overlap.specs.Overlap.{otherPlanes}
 
 -- of the planes before place i, m were laid down, and with those after it that are kept all are
 pub record Sifting (plane : Plane) (tol : Float) (l before : List Plane) (i m : ℕ) (out : List Plane) : Type 0 where
   pub within : i ≤ length l
   pub few : m ≤ i
-  pub rest : Rest (othersOf plane tol l) before m (othersOf plane tol (drop i l)) out
+  pub rest : Rest (otherPlanes plane tol l) before m (otherPlanes plane tol (drop i l)) out
 
 module _ {plane : Plane} {tol : Float} {l before : List Plane} where
   pub sift-start : Sifting plane tol l before 0 0 before
@@ -25,20 +25,20 @@ module _ {plane : Plane} {tol : Float} {l before : List Plane} where
 module _ {plane : Plane} {tol : Float} {l before out : List Plane} {i m : ℕ} where
   pub sift-drop : {p : Plane} (d : Plane) → Sifting plane tol l before i m out → i < length l → p ≡ getD l i d → sameSide plane p tol ≡ true
       → Sifting plane tol l before (i + 1) m out
-  unfolding othersOf
+  unfolding otherPlanes
   sift-drop d s h q e = record { within = omega arith; few = omega (arith, s .few); rest = rw (drop-more l i d h, ← q, e) at (s .rest) }
 
   pub sift-keep : {p : Plane} {out′ : List Plane} (d : Plane) → Sifting plane tol l before i m out → i < length l → p ≡ getD l i d → sameSide plane p tol ≡ false
       → out′ ≡ set out m p → Sifting plane tol l before (i + 1) (m + 1) out′
-  unfolding othersOf
+  unfolding otherPlanes
   sift-keep {p} {out′} d s h q e g =
-      let more : Rest (othersOf plane tol l) before m (p ∷ othersOf plane tol (drop (i + 1) l)) out = rw (drop-more l i d h, ← q, e) at (s .rest) in
+      let more : Rest (otherPlanes plane tol l) before m (p ∷ otherPlanes plane tol (drop (i + 1) l)) out = rw (drop-more l i d h, ← q, e) at (s .rest) in
       record { within = omega arith; few = omega (arith, s .few); rest = rest-more {xs = p ∷ []} more (filled-one refl g) }
 
   -- at the end they are read back, where the list holds so many
   pub sift-end : Sifting plane tol l before i m out → length l ≤ i → length l ≤ length before
-      → (m ≡ length (othersOf plane tol l)) × (take m out ≡ othersOf plane tol l)
-  unfolding othersOf
+      → (m ≡ length (otherPlanes plane tol l)) × (take m out ≡ otherPlanes plane tol l)
+  unfolding otherPlanes
   sift-end s h r =
-      let none : Rest (othersOf plane tol l) before m [] out = rw (drop-of-length-le l h) at (s .rest) in
+      let none : Rest (otherPlanes plane tol l) before m [] out = rw (drop-of-length-le l h) at (s .rest) in
       (omega (arith, rest-end none .count), filled-read (rest-end none) (omega (arith, s .few, s .within)))

@@ -14,19 +14,20 @@ use Rattle.places.proofs.Lists.{each-slice}
 use Rattle.floats.specs.F64.{_+f_}
 use Rattle.flat.specs.Points.{Point, verticesOf, cornersOf}
 use Rattle.cell.specs.Faces.{facesFrom, facesOf, rises}
-use Rattle.cell.specs.Refusals.{Sound}
+use Rattle.cell.specs.Steps.{Sound}
 use Rattle.cell.proofs.Faces.{Step, faces-more, faces-none, rises-more}
 use Rattle.planes.specs.declared.Plane.{Plane}
-use Rattle.planes.specs.Planes.{noPlane}
+use Rattle.planes.specs.Steps.{noPlane}
 use Rattle.planes.proofs.Faces.{facePlane}
 use Rattle.places.proofs.Stored.{threes-take}
-use Rattle.work.specs.declared.Clipped.the-variants.{Nothing, Outline, Refused}
-use Rattle.work.specs.Work.{Outcome, nothing, noRoom, outline, outlineOf, inSecond, answerOf, Ended}
-use Rattle.work.proofs.Endings.{refused-is}
+use Rattle.work_lists.specs.declared.Left.the-variants.{Nothing, Outline, NoRoom}
+use Rattle.work_lists.specs.WorkLists.{Outcome, nothing, noRoom, outline, outlineOf, answerOf}
+use Rattle.work_lists.specs.Steps.{inSecond, Ended}
+use Rattle.work_lists.proofs.Endings.{room-lacks}
 use Rattle.overlap.specs.declared.Measures.{Measures}
-use Rattle.work.specs.declared.Measured.{Measured}
+use Rattle.work_lists.specs.declared.Sum.{Sum}
 use Rattle.overlap.specs.Overlap.{contributionOf, patchOf, addedTo}
-use Rattle.overlap.specs.Ready.{Ready}
+use Rattle.overlap.specs.Steps.{Ready}
 
 -- what is left of a face that is given by its numbers
 abbrev pub facePatch : Bool → ℕ → Measures → List Point → List Plane → List ℕ → Outcome
@@ -53,8 +54,8 @@ module _ {A : Type 0} {g : List ℕ → A} {c es : List ℕ} {l : List A} where
     pub beside-at : {e : ℕ} (d : A) → e ≡ getD es k 0 → getD l k d ≡ g (slice p e c)
     beside-at {e} d q = let r : getD l k d ∷ drop (k + 1) l ≡ g (slice p e c) ∷ map g (facesFrom e c (drop (k + 1) es)) = both d q in cc
 
-    pub beside-turn : {e : ℕ} (d : A) → e ≡ getD es k 0 → Beside g c es l e (k + 1)
-    beside-turn {e} d q = let r : getD l k d ∷ drop (k + 1) l ≡ g (slice p e c) ∷ map g (facesFrom e c (drop (k + 1) es)) = both d q in record { so = cc }
+    pub beside-next : {e : ℕ} (d : A) → e ≡ getD es k 0 → Beside g c es l e (k + 1)
+    beside-next {e} d q = let r : getD l k d ∷ drop (k + 1) l ≡ g (slice p e c) ∷ map g (facesFrom e c (drop (k + 1) es)) = both d q in record { so = cc }
 
 -- the face k is ready to be clipped
 pub ready-at : {coords planes first second : List Float} {c es face : List ℕ} {own : List Plane} {plane : Plane} {p k e : ℕ}
@@ -95,7 +96,7 @@ abbrev pub outcomes : (List ℕ → Outcome) → List ℕ → List ℕ → ℕ �
 outcomes f c es p k = map f (facesFrom p c (drop k es))
 
 -- ---- the loop: from face k, the previous end p and the sum v on it comes to `whole`
-pub record Adding (ref : Point) (f : List ℕ → Outcome) (c es : List ℕ) (whole : Measured) (p k : ℕ) (v : Float) : Type 0 where
+pub record Adding (ref : Point) (f : List ℕ → Outcome) (c es : List ℕ) (whole : Sum) (p k : ℕ) (v : Float) : Type 0 where
   pub within : k ≤ length es
   pub ordered : T (rises p (drop k es) (length c))
   pub so : addedTo ref v (outcomes f c es p k) ≡ whole
@@ -104,7 +105,7 @@ pub add-start : {ref : Point} {f : List ℕ → Outcome} {c es : List ℕ} {v : 
 unfolding facesOf
 add-start t = record { within = zero-le; ordered = t; so = refl }
 
-module _ {ref : Point} {f : List ℕ → Outcome} {c es : List ℕ} {whole : Measured} {p k e : ℕ} {v : Float} (l : Adding ref f c es whole p k v) (h : k < length es) (q : e ≡ getD es k 0) where
+module _ {ref : Point} {f : List ℕ → Outcome} {c es : List ℕ} {whole : Sum} {p k e : ℕ} {v : Float} (l : Adding ref f c es whole p k v) (h : k < length es) (q : e ≡ getD es k 0) where
   pub add-step : Step p es (length c) k e
   add-step = rises-more p es (length c) k e h q (l .ordered)
 
@@ -118,11 +119,11 @@ module _ {ref : Point} {f : List ℕ → Outcome} {c es : List ℕ} {whole : Mea
       → Adding ref f c es whole e (k + 1) w
   add-outline {a = a} {b = b} o g = record { within = omega arith; ordered = add-step .rest; so = rw g (sym (took-outline ref v (outcomes f c es e (k + 1)) (f (slice p e c)) a b (o .answer) (o .stands)) ∙ next) }
 
-  pub add-refused : {why : ℕ} {a b : List Point} → Ended (f (slice p e c)) (Refused why) a b → Measured.Refused why ≡ whole
+  pub add-refused : {a b : List Point} → Ended (f (slice p e c)) NoRoom a b → Sum.NoRoom ≡ whole
   unfolding addedTo
-  add-refused o = rw (refused-is o .1) (rw (refused-is o .0) at next)
+  add-refused o = rw (room-lacks o) at next
 
-pub add-end : {ref : Point} {f : List ℕ → Outcome} {c es : List ℕ} {whole : Measured} {p k : ℕ} {v : Float} → Adding ref f c es whole p k v → length es ≤ k → Measured.Is v ≡ whole
+pub add-end : {ref : Point} {f : List ℕ → Outcome} {c es : List ℕ} {whole : Sum} {p k : ℕ} {v : Float} → Adding ref f c es whole p k v → length es ≤ k → Sum.Is v ≡ whole
 unfolding addedTo
 add-end {c = c} {es = es} {p = p} {k = k} l h = sym (rw (faces-none p c es k h)) ∙ l .so
 

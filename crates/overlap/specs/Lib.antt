@@ -1,3 +1,3 @@
 pub mod Tolerances
 pub mod Overlap
-pub mod Ready
+pub mod Steps

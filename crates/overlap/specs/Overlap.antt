@@ -11,10 +11,10 @@ use Rattle.flat.specs.Points.{Point, minusOf, cornersOf, boundsOf}
 use Rattle.volume.specs.Volume.{tripleOf}
 use Rattle.planes.specs.declared.Plane.{Plane}
 use Rattle.planes.specs.Planes.{planeOf, planesOf, sameSide, coplanarOpposite}
-use Rattle.work.specs.Work.{Outcome, nothing, noRoom, outline}
+use Rattle.work_lists.specs.WorkLists.{Outcome, nothing, noRoom, outline}
 use Rattle.clip.specs.Clip.{clipFaceOf}
 use Rattle.overlap.specs.declared.Measures.{Measures}
-use Rattle.work.specs.declared.Measured.{Measured}
+use Rattle.work_lists.specs.declared.Sum.{Sum}
 use Rattle.overlap.specs.Tolerances.{boxesMiss, measuresOf}
 
 -- ---- polygon_volume_contribution
@@ -36,30 +36,30 @@ contributionOf ref (p ∷ ps) = foldPairs (addFan ref p) (steps ps) zero64 /f si
 -- ---- the faces
 -- the plane p of the other cell keeps a face in this plane from being counted: a face of the second cell (true) where p is its plane, from either side,
 -- and one of the first (false) where p is its plane from the other side
-abbrev pub skips : Bool → Plane → Float → Plane → Bool
-skips true plane tol p = coplanarOpposite p plane tol || sameSide p plane tol
-skips false plane tol p = coplanarOpposite plane p tol
+abbrev pub coplanarSkip : Bool → Plane → Float → Plane → Bool
+coplanarSkip true plane tol p = coplanarOpposite p plane tol || sameSide p plane tol
+coplanarSkip false plane tol p = coplanarOpposite plane p tol
 
 -- the planes that are not the plane itself, with the inside on the same side
-unfoldable pub othersOf : Plane → Float → List Plane → List Plane
-othersOf plane tol [] = []
-othersOf plane tol (p ∷ ps) =
-    let rest = othersOf plane tol ps in
+unfoldable pub otherPlanes : Plane → Float → List Plane → List Plane
+otherPlanes plane tol [] = []
+otherPlanes plane tol (p ∷ ps) =
+    let rest = otherPlanes plane tol ps in
     pick (sameSide plane p tol) rest (p ∷ rest)
 
 -- a face of the first cell: none of it counts where it lies in a plane of the second from the other side; else it is clipped by the planes of the second that are not its own
 unfoldable pub firstPatch : ℕ → Measures → List Plane → List Point → Outcome
 firstPatch room m planes ps =
     let plane = planeOf ps in
-    let left = clipFaceOf room (m .eps) (othersOf plane (m .coplanar) planes) ps in
-    pick (anyOf (skips false plane (m .coplanar)) planes) nothing left
+    let left = clipFaceOf room (m .eps) (otherPlanes plane (m .coplanar) planes) ps in
+    pick (anyOf (coplanarSkip false plane (m .coplanar)) planes) nothing left
 
 -- a face of the second cell: none of it counts where it lies in a plane of the first, from either side; else it is clipped by all planes of the first
 unfoldable pub secondPatch : ℕ → Measures → List Plane → List Point → Outcome
 secondPatch room m planes ps =
     let plane = planeOf ps in
     let left = clipFaceOf room (m .eps) planes ps in
-    pick (anyOf (skips true plane (m .coplanar)) planes) nothing left
+    pick (anyOf (coplanarSkip true plane (m .coplanar)) planes) nothing left
 
 -- a face of the second cell (true) or of the first (false), clipped by planes of the other
 abbrev pub patchOf : Bool → ℕ → Measures → List Plane → List Point → Outcome
@@ -70,27 +70,29 @@ patchOf false room m planes ps = firstPatch room m planes ps
 unfoldable pub patchesOf : Bool → ℕ → Measures → List Point → List (List ℕ) → List Plane → List Outcome
 patchesOf second room m vs faces planes = map (λ face. patchOf second room m planes (cornersOf vs face)) faces
 
--- the contributions added in order to the sum v; an outline of 0 points reads as nothing left, and where a face had no room the sum is refused 6
-unfoldable pub addedTo : Point → Float → List Outcome → Measured
-addedTo ref v [] = Measured.Is v
+-- the contributions added in order to the sum v; where a face had no room there is no sum.
+-- An outline of 0 points reads as nothing left, as document 01 has it; none occurs here, for no face has 0 corners (refusal 5),
+-- and a plane that cuts leaves at least 3 points (`patch-points` of proofs/Patches.antt)
+unfoldable pub addedTo : Point → Float → List Outcome → Sum
+addedTo ref v [] = Sum.Is v
 addedTo ref v (nothing ∷ os) = addedTo ref v os
-addedTo ref v (noRoom ∷ os) = Measured.Refused 6
+addedTo ref v (noRoom ∷ os) = Sum.NoRoom
 addedTo ref v (outline second [] ∷ os) = addedTo ref v os
 addedTo ref v (outline second (p ∷ ps) ∷ os) = addedTo ref (v +f contributionOf ref (p ∷ ps)) os
 
 -- the magnitude of a sum
-abbrev pub magnitudeOfMeasured : Measured → Measured
-magnitudeOfMeasured (Measured.Is v) = Measured.Is (magnitudeOf v)
-magnitudeOfMeasured (Measured.Refused k) = Measured.Refused k
+abbrev pub magnitudeOfSum : Sum → Sum
+magnitudeOfSum (Sum.Is v) = Sum.Is (magnitudeOf v)
+magnitudeOfSum Sum.NoRoom = Sum.NoRoom
 
 -- convex_intersection_volume_impl: the faces of the first cell before those of the second
-unfoldable pub overlapOf : ℕ → List Point → List (List ℕ) → List Point → List (List ℕ) → Measured
-overlapOf room vs faces ws others =
+unfoldable pub overlapOf : ℕ → List Point → List (List ℕ) → List Point → List (List ℕ) → Sum
+overlapOf room vs faces ws otherFaces =
     let m = measuresOf vs ws in
-    magnitudeOfMeasured (addedTo (m .reference) zero64 (patchesOf false room m vs faces (planesOf ws others) ++ patchesOf true room m ws others (planesOf vs faces)))
+    magnitudeOfSum (addedTo (m .reference) zero64 (patchesOf false room m vs faces (planesOf ws otherFaces) ++ patchesOf true room m ws otherFaces (planesOf vs faces)))
 
 -- convex_intersection_volume: 0 where the boxes miss each other
-unfoldable pub intersectionOf : ℕ → List Point → List (List ℕ) → List Point → List (List ℕ) → Measured
-intersectionOf room vs faces ws others =
-    let overlap = overlapOf room vs faces ws others in
-    pick (boxesMiss (boundsOf 3 vs) (boundsOf 3 ws)) (Measured.Is zero64) overlap
+unfoldable pub intersectionOf : ℕ → List Point → List (List ℕ) → List Point → List (List ℕ) → Sum
+intersectionOf room vs faces ws otherFaces =
+    let overlap = overlapOf room vs faces ws otherFaces in
+    pick (boxesMiss (boundsOf 3 vs) (boundsOf 3 ws)) (Sum.Is zero64) overlap

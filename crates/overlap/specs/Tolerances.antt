@@ -5,10 +5,10 @@ use mathlib.Core.List.{List, [], _++_}
 use lib.ListN.{getD}
 use lib.Ieee.{Float, binary64, ofBits, lt}
 use Rattle.places.specs.Loops.{foldList}
-use Rattle.floats.specs.F64.{_*f_, zero64}
+use Rattle.floats.specs.F64.{_*f_, zero64, epsilon64}
 use Rattle.floats.specs.Pick.{largestOf}
 use Rattle.flat.specs.Points.{Point, Box, at, centroidOf, boundsOf, scaleOf}
-use Rattle.trim.specs.Doubled.{squareOf, dist3Of, epsilon64}
+use Rattle.clip_step.specs.Doubled.{dist3Of}
 use Rattle.overlap.specs.declared.Measures.{Measures}
 
 -- along the axis k one box ends before the other starts
@@ -22,10 +22,6 @@ boxesMiss a b = apartAlong a b 0 || (apartAlong a b 1 || apartAlong a b 2)
 -- the larger of m and the distance of p from c
 unfoldable pub farther : Point → Point → Float → Float
 farther c p m = largestOf m (dist3Of p c)
-
--- the larger of m and the sum of the squares of what p and c differ by
-unfoldable pub fartherSquare : Point → Point → Float → Float
-fartherSquare c p m = largestOf m (squareOf p c)
 
 -- the radial length: the largest distance of a point from the centroid of all
 unfoldable pub radialOf : List Point → Float

@@ -1,22 +1,24 @@
 // The overlap of two cells: each cell's faces clipped by the planes of the other, and the contributions of what is left.
 use planes::Plane;
-use work::Clipped;
-use work::Measured;
+use work_lists::Left;
+use work_lists::Sum;
 
 pub mod tolerances;
 
 ghost use mathlib.Core.Path.{_≡_};
 ghost use Prim.Native.Nat.{_*_, _≤_};
 ghost use lib.ListN.{length, take, replicate};
+ghost use Rattle.places.specs.Limits.{mostWorkNumbers};
 ghost use Rattle.places.specs.Loops.{anyOf};
 ghost use Rattle.floats.specs.F64.{zero64};
 ghost use Rattle.flat.specs.Points.{verticesOf, cornersOf};
 ghost use Rattle.cell.specs.Faces.{facesOf};
-ghost use Rattle.cell.specs.Refusals.{Sound};
+ghost use Rattle.cell.specs.Steps.{Sound};
 ghost use Rattle.planes.specs.Planes.{planesOf, inFours};
-ghost use Rattle.work.specs.Work.{shorterOf, Ended};
-ghost use Rattle.overlap.specs.Overlap.{contributionOf, skips, othersOf, firstPatch, secondPatch, patchOf, patchesOf, addedTo, magnitudeOfMeasured, overlapOf, intersectionOf};
-ghost use Rattle.overlap.specs.Ready.{Ready, Scratch, Solid};
+ghost use Rattle.work_lists.specs.WorkLists.{shorterOf};
+ghost use Rattle.work_lists.specs.Steps.{Ended};
+ghost use Rattle.overlap.specs.Overlap.{contributionOf, coplanarSkip, otherPlanes, firstPatch, secondPatch, patchOf, patchesOf, addedTo, magnitudeOfSum, overlapOf, intersectionOf};
+ghost use Rattle.overlap.specs.Steps.{Ready, Scratch, Solid};
 
 // The clip's eps, the coplanar tolerance, and the point about which contributions are taken.
 pub struct Measures {
@@ -27,7 +29,7 @@ pub struct Measures {
 
 // The contribution of an outline: the triangles from its first point to each of its other sides, over 6. Each point is taken from the reference once.
 // Ruled out: triangles about the origin; one triangle too few.
-pub fn contribution(s: &[f64], reference: [f64; 3]) -> f64
+fn contribution(s: &[f64], reference: [f64; 3]) -> f64
     ensures { λ r. ⌜ r ≡ contributionOf reference (verticesOf (now (s .entry))) ⌝ }
 {
     let n = s.len() / 3;
@@ -48,8 +50,8 @@ pub fn contribution(s: &[f64], reference: [f64; 3]) -> f64
 }
 
 // Whether the plane p of the other cell keeps a face in this plane from being counted.
-fn skips(other: bool, plane: Plane, p: Plane, tol: f64) -> bool
-    ensures { λ r. ⌜ r ≡ skips other plane tol p ⌝ }
+fn coplanar_skip(other: bool, plane: Plane, p: Plane, tol: f64) -> bool
+    ensures { λ r. ⌜ r ≡ coplanarSkip other plane tol p ⌝ }
 {
     if !other {
         return planes::plane_coplanar_opposite(plane, p, tol);
@@ -61,13 +63,13 @@ fn skips(other: bool, plane: Plane, p: Plane, tol: f64) -> bool
 }
 
 // Whether one of the planes does.
-fn any_skips(other: bool, plane: Plane, planes: &[f64], tol: f64) -> bool
-    ensures { λ r. ⌜ r ≡ anyOf (skips other plane tol) (inFours (now (planes .entry))) ⌝ }
+fn any_coplanar_skip(other: bool, plane: Plane, planes: &[f64], tol: f64) -> bool
+    ensures { λ r. ⌜ r ≡ anyOf (coplanarSkip other plane tol) (inFours (now (planes .entry))) ⌝ }
 {
     let n = planes.len() / 4;
     let mut i = 0;
     while i < n {
-        if skips(other, plane, planes::plane_at(planes, i), tol) {
+        if coplanar_skip(other, plane, planes::plane_at(planes, i), tol) {
             return true;
         }
         i += 1;
@@ -76,10 +78,10 @@ fn any_skips(other: bool, plane: Plane, planes: &[f64], tol: f64) -> bool
 }
 
 // The planes that are not this one from the same side, laid down at the front of a list; so many there are.
-fn others(plane: Plane, planes: &[f64], tol: f64, kept: &mut [f64]) -> usize
+fn other_planes(plane: Plane, planes: &[f64], tol: f64, kept: &mut [f64]) -> usize
     requires { ⌜ length (now planes) ≤ length (now kept) ⌝ }
-    ensures { λ r. ⌜ r ≡ length (othersOf plane tol (inFours (now (planes .entry)))) ⌝ }
-    ensures { λ r. ⌜ take r (inFours (now (kept .exit))) ≡ othersOf plane tol (inFours (now (planes .entry))) ⌝ }
+    ensures { λ r. ⌜ r ≡ length (otherPlanes plane tol (inFours (now (planes .entry)))) ⌝ }
+    ensures { λ r. ⌜ take r (inFours (now (kept .exit))) ≡ otherPlanes plane tol (inFours (now (planes .entry))) ⌝ }
     ensures { λ r. ⌜ r * 4 ≤ length (now (planes .entry)) ⌝ }
 {
     let n = planes.len() / 4;
@@ -106,15 +108,15 @@ fn first_patch(
     m: Measures,
     first: &mut [f64],
     second: &mut [f64],
-) -> Clipped
+) -> Left
     requires { ⌜ Ready (verticesOf (now coords)) (now face) plane (now planes) (now first) (now second) ⌝ }
     requires { ⌜ length (now planes) ≤ length (now kept) ⌝ }
     ensures { λ r. ⌜ Ended (firstPatch (shorterOf (length (verticesOf (now (first .entry)))) (length (verticesOf (now (second .entry))))) m (inFours (now (planes .entry))) (cornersOf (verticesOf (now (coords .entry))) (now (face .entry)))) r (verticesOf (now (first .exit))) (verticesOf (now (second .exit))) ⌝ }
 {
-    if any_skips(false, plane, planes, m.coplanar) {
-        return Clipped::Nothing;
+    if any_coplanar_skip(false, plane, planes, m.coplanar) {
+        return Left::Nothing;
     }
-    let n = others(plane, planes, m.coplanar, kept);
+    let n = other_planes(plane, planes, m.coplanar, kept);
     clip::clip_face(coords, face, &kept[0..n * 4], m.eps, first, second)
 }
 
@@ -127,12 +129,12 @@ fn second_patch(
     m: Measures,
     first: &mut [f64],
     second: &mut [f64],
-) -> Clipped
+) -> Left
     requires { ⌜ Ready (verticesOf (now coords)) (now face) plane (now planes) (now first) (now second) ⌝ }
     ensures { λ r. ⌜ Ended (secondPatch (shorterOf (length (verticesOf (now (first .entry)))) (length (verticesOf (now (second .entry))))) m (inFours (now (planes .entry))) (cornersOf (verticesOf (now (coords .entry))) (now (face .entry)))) r (verticesOf (now (first .exit))) (verticesOf (now (second .exit))) ⌝ }
 {
-    if any_skips(true, plane, planes, m.coplanar) {
-        return Clipped::Nothing;
+    if any_coplanar_skip(true, plane, planes, m.coplanar) {
+        return Left::Nothing;
     }
     clip::clip_face(coords, face, planes, m.eps, first, second)
 }
@@ -148,7 +150,7 @@ fn patch(
     m: Measures,
     first: &mut [f64],
     second: &mut [f64],
-) -> Clipped
+) -> Left
     requires { ⌜ Ready (verticesOf (now coords)) (now face) plane (now planes) (now first) (now second) ⌝ }
     requires { ⌜ length (now planes) ≤ length (now kept) ⌝ }
     ensures { λ r. ⌜ Ended (patchOf other (shorterOf (length (verticesOf (now (first .entry)))) (length (verticesOf (now (second .entry))))) m (inFours (now (planes .entry))) (cornersOf (verticesOf (now (coords .entry))) (now (face .entry)))) r (verticesOf (now (first .exit))) (verticesOf (now (second .exit))) ⌝ }
@@ -172,11 +174,11 @@ fn add_faces(
     v: f64,
     first: &mut [f64],
     second: &mut [f64],
-) -> Measured
+) -> Sum
     requires { ⌜ Sound (now coords) (now corners) (now ends) ⌝ }
     requires { ⌜ inFours (now own) ≡ planesOf (verticesOf (now coords)) (facesOf (now corners) (now ends)) ⌝ }
     requires { ⌜ (length (now planes) ≤ 1024) × (length (now planes) ≤ length (now kept)) ⌝ }
-    requires { ⌜ (length (now first) ≤ 3072) × (length (now second) ≤ 3072) ⌝ }
+    requires { ⌜ (length (now first) ≤ mostWorkNumbers) × (length (now second) ≤ mostWorkNumbers) ⌝ }
     ensures { λ r. ⌜ r ≡ addedTo (m .reference) v (patchesOf other (shorterOf (length (verticesOf (now (first .entry)))) (length (verticesOf (now (second .entry))))) m (verticesOf (now (coords .entry))) (facesOf (now (corners .entry)) (now (ends .entry))) (inFours (now (planes .entry)))) ⌝ }
 {
     let reference = m.reference;
@@ -190,24 +192,24 @@ fn add_faces(
         start = end;
         k += 1;
         match patch(other, coords, face, plane, planes, kept, m, first, second) {
-            Clipped::Nothing => {}
-            Clipped::Outline(n, in_second) => {
-                let shown = work::shown(first, second, n * 3, in_second);
+            Left::Nothing => {}
+            Left::Outline(n, in_second) => {
+                let shown = work_lists::shown(first, second, n * 3, in_second);
                 sum = sum + contribution(shown, reference);
             }
-            Clipped::Refused(why) => return Measured::Refused(why),
+            Left::NoRoom => return Sum::NoRoom,
         }
     }
-    Measured::Is(sum)
+    Sum::Is(sum)
 }
 
 // The magnitude of a sum.
-fn magnitude_of(sum: Measured) -> Measured
-    ensures { λ r. ⌜ r ≡ magnitudeOfMeasured sum ⌝ }
+fn magnitude_of(sum: Sum) -> Sum
+    ensures { λ r. ⌜ r ≡ magnitudeOfSum sum ⌝ }
 {
     match sum {
-        Measured::Is(v) => Measured::Is(floats::magnitude(v)),
-        Measured::Refused(why) => Measured::Refused(why),
+        Sum::Is(v) => Sum::Is(floats::magnitude(v)),
+        Sum::NoRoom => Sum::NoRoom,
     }
 }
 
@@ -224,11 +226,11 @@ fn overlap_in(
     kept: &mut [f64],
     first: &mut [f64],
     second: &mut [f64],
-) -> Measured
+) -> Sum
     requires { ⌜ Solid (now coords) (now corners) (now ends) ⌝ }
     requires { ⌜ Solid (now coords2) (now corners2) (now ends2) ⌝ }
     requires { ⌜ Scratch (now ends) (now ends2) (now own) (now planes) (now kept) ⌝ }
-    requires { ⌜ (length (now first) ≤ 3072) × (length (now second) ≤ 3072) ⌝ }
+    requires { ⌜ (length (now first) ≤ mostWorkNumbers) × (length (now second) ≤ mostWorkNumbers) ⌝ }
     ensures { λ r. ⌜ r ≡ overlapOf (shorterOf (length (verticesOf (now (first .entry)))) (length (verticesOf (now (second .entry))))) (verticesOf (now (coords .entry))) (facesOf (now (corners .entry)) (now (ends .entry))) (verticesOf (now (coords2 .entry))) (facesOf (now (corners2 .entry)) (now (ends2 .entry))) ⌝ }
 {
     planes::planes(coords, corners, ends, own);
@@ -247,8 +249,8 @@ fn overlap_in(
         first,
         second,
     ) {
-        Measured::Refused(why) => Measured::Refused(why),
-        Measured::Is(v) => magnitude_of(add_faces(
+        Sum::NoRoom => Sum::NoRoom,
+        Sum::Is(v) => magnitude_of(add_faces(
             true,
             coords2,
             corners2,
@@ -281,10 +283,10 @@ fn overlap(
     ends2: &[u32],
     first: &mut [f64],
     second: &mut [f64],
-) -> Measured
+) -> Sum
     requires { ⌜ Solid (now coords) (now corners) (now ends) ⌝ }
     requires { ⌜ Solid (now coords2) (now corners2) (now ends2) ⌝ }
-    requires { ⌜ (length (now first) ≤ 3072) × (length (now second) ≤ 3072) ⌝ }
+    requires { ⌜ (length (now first) ≤ mostWorkNumbers) × (length (now second) ≤ mostWorkNumbers) ⌝ }
     ensures { λ r. ⌜ r ≡ overlapOf (shorterOf (length (verticesOf (now (first .entry)))) (length (verticesOf (now (second .entry))))) (verticesOf (now (coords .entry))) (facesOf (now (corners .entry)) (now (ends .entry))) (verticesOf (now (coords2 .entry))) (facesOf (now (corners2 .entry)) (now (ends2 .entry))) ⌝ }
 {
     let n = ends.len() * 4;
@@ -335,14 +337,14 @@ fn intersection(
     ends2: &[u32],
     first: &mut [f64],
     second: &mut [f64],
-) -> Measured
+) -> Sum
     requires { ⌜ Solid (now coords) (now corners) (now ends) ⌝ }
     requires { ⌜ Solid (now coords2) (now corners2) (now ends2) ⌝ }
-    requires { ⌜ (length (now first) ≤ 3072) × (length (now second) ≤ 3072) ⌝ }
+    requires { ⌜ (length (now first) ≤ mostWorkNumbers) × (length (now second) ≤ mostWorkNumbers) ⌝ }
     ensures { λ r. ⌜ r ≡ intersectionOf (shorterOf (length (verticesOf (now (first .entry)))) (length (verticesOf (now (second .entry))))) (verticesOf (now (coords .entry))) (facesOf (now (corners .entry)) (now (ends .entry))) (verticesOf (now (coords2 .entry))) (facesOf (now (corners2 .entry)) (now (ends2 .entry))) ⌝ }
 {
     if tolerances::boxes_miss(flat::space::bounds(coords), flat::space::bounds(coords2)) {
-        return Measured::Is(0.0);
+        return Sum::Is(0.0);
     }
     overlap(
         coords,
@@ -367,10 +369,10 @@ pub fn convex_intersection_volume(
     ends2: &[u32],
     first: &mut [f64],
     second: &mut [f64],
-) -> Measured
+) -> Sum
     requires { ⌜ Solid (now coords) (now corners) (now ends) ⌝ }
     requires { ⌜ Solid (now coords2) (now corners2) (now ends2) ⌝ }
-    requires { ⌜ (length (now first) ≤ 3072) × (length (now second) ≤ 3072) ⌝ }
+    requires { ⌜ (length (now first) ≤ mostWorkNumbers) × (length (now second) ≤ mostWorkNumbers) ⌝ }
     ensures { λ r. ⌜ r ≡ intersectionOf (shorterOf (length (verticesOf (now (first .entry)))) (length (verticesOf (now (second .entry))))) (verticesOf (now (coords .entry))) (facesOf (now (corners .entry)) (now (ends .entry))) (verticesOf (now (coords2 .entry))) (facesOf (now (corners2 .entry)) (now (ends2 .entry))) ⌝ }
     ensures { λ _. ⌜ (now (first .exit) ≡ replicate (length (now (first .entry))) zero64) × (now (second .exit) ≡ replicate (length (now (second .entry))) zero64) ⌝ }
 {
@@ -384,7 +386,7 @@ pub fn convex_intersection_volume(
         first,
         second,
     );
-    work::wipe(first, 0);
-    work::wipe(second, 0);
+    work_lists::wipe(first, 0);
+    work_lists::wipe(second, 0);
     r
 }

@@ -6,9 +6,11 @@ ghost use mathlib.Core.List.{_++_};
 ghost use Prim.Native.Nat.{_≤_};
 ghost use lib.ListN.{length};
 ghost use lib.Ieee.{lt};
+ghost use Rattle.places.specs.Limits.{mostCoordinates};
 ghost use Rattle.places.specs.Loops.{foldList};
 ghost use Rattle.flat.specs.Points.{verticesOf, plusOf, centroidOf};
-ghost use Rattle.overlap.specs.Tolerances.{boxesMiss, fartherSquare, measuresOf};
+ghost use Rattle.overlap.specs.Tolerances.{boxesMiss, measuresOf};
+ghost use Rattle.overlap.specs.Steps.{fartherSquare};
 
 // Whether of two boxes one ends before the other starts, along an axis.
 // Ruled out: `<=`, which lets boxes that touch miss each other; asking only whether the first ends before the second.
@@ -55,7 +57,7 @@ fn add_points(coords: &[f64], s: [f64; 3]) -> [f64; 3]
 
 // The vertex centroid of two cells together.
 fn centroid_of_both(a: &[f64], b: &[f64]) -> [f64; 3]
-    requires { ⌜ (length (now a) ≤ 768) × (length (now b) ≤ 768) ⌝ }
+    requires { ⌜ (length (now a) ≤ mostCoordinates) × (length (now b) ≤ mostCoordinates) ⌝ }
     ensures { λ r. ⌜ r ≡ centroidOf 3 (verticesOf (now (a .entry)) ++ verticesOf (now (b .entry))) ⌝ }
 {
     let s = add_points(b, add_points(a, [0.0, 0.0, 0.0]));
@@ -71,7 +73,7 @@ fn farthest(coords: &[f64], c: [f64; 3], m: f64) -> f64
     let mut far = m;
     let mut i = 0;
     while i < n {
-        let s = trim::doubled::square3(flat::space::vertex(coords, i), c);
+        let s = clip_step::doubled::square3(flat::space::vertex(coords, i), c);
         far = floats::largest(far, s);
         i += 1;
     }
@@ -81,7 +83,7 @@ fn farthest(coords: &[f64], c: [f64; 3], m: f64) -> f64
 // The tolerances of an overlap and its reference point. The root grows with the number, so the largest distance is the root of the largest square. The constant is 2^-46, 64 times the distance from 1 to the next f64.
 // Ruled out: a radial length of the first cell's vertices alone; the centroid of both cells for the reference point.
 pub fn measures(a: &[f64], b: &[f64]) -> Measures
-    requires { ⌜ (length (now a) ≤ 768) × (length (now b) ≤ 768) ⌝ }
+    requires { ⌜ (length (now a) ≤ mostCoordinates) × (length (now b) ≤ mostCoordinates) ⌝ }
     ensures { λ r. ⌜ r ≡ measuresOf (verticesOf (now (a .entry))) (verticesOf (now (b .entry))) ⌝ }
 {
     let c = centroid_of_both(a, b);

@@ -1,6 +1,6 @@
 pub mod Loops
 pub mod Walks
-pub mod Turns
+pub mod Folding
 pub mod Lists
 pub mod Rings
 pub mod Stored

@@ -7,8 +7,9 @@ use native.Mathlib.Omega.{arith}
 use native.Mathlib.Numerals.{add-one}
 use lib.ListN.{length, getD, set, take, drop, length-set, length-take, length-drop, drop-of-length-le, replicate, length-replicate}
 use lib.Seq.{slice, take-at, length-take-le, take-all, take-suc-set, drop-cons, sets, sets-eq, getD-take, getD-drop}
-use Rattle.places.proofs.Turns.{foldFrom}
-use Rattle.places.specs.Lists.{Each, without, removed}
+use Rattle.places.proofs.Folding.{foldFrom}
+use Rattle.places.specs.Lists.{Each, without}
+use Rattle.places.specs.Steps.{removed}
 
 -- ---- the list without k
 module _ {A : Type 0} where
@@ -44,7 +45,7 @@ map-at f [] i d e h = absurd (not-suc-le-zero h)
 map-at f (x ∷ xs) zero d e h = refl
 map-at f (x ∷ xs) (suc i) d e h = map-at f xs i d e (le-of-suc-le-suc h)
 
--- ---- a turn of the shift: place j gets what stands at j + 1
+-- ---- a step of the shift: place j gets what stands at j + 1
 abbrev pub shift : {A : Type 0} → A → ℕ → List A → List A
 shift d j l = set l j (getD l (j + 1) d)
 
@@ -79,7 +80,7 @@ take-removed k m l h g =
     let e : length (take m l) ≡ m = length-take-le m l g in
     rw append-assoc (take-at (without k (take m l)) _ (m - 1) (omega (arith, length-without k (take m l) (omega arith))))
 
--- ---- a turn of a fill: place i gets what g gives there
+-- ---- a step of a fill: place i gets what g gives there
 abbrev pub fill : {A : Type 0} → (ℕ → A) → ℕ → List A → List A
 fill g i l = set l i (g i)
 

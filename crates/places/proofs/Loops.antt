@@ -1,5 +1,5 @@
 -- The loops of specs/Loops.antt and specs/Ring.antt. An invariant is one record that says: what is left of the list makes, with the state, the whole.
--- Each loop's proof is its start, its turn and its end.
+-- Each loop's proof is its start, its next place and its end.
 use mathlib.Core.Path.{_≡_, refl, sym, _∙_, ap}
 use mathlib.Core.Logic.{⊎-elim}
 use mathlib.Core.Bool.{Bool, true, false, _||_}
@@ -14,7 +14,7 @@ use Rattle.places.specs.Loops.{pick, foldList, anyOf, countOf, firstFrom
 use Rattle.places.specs.Ring.{sides, foldPairs, nextOf}
 use Rattle.places.specs.declared.Found.{Found}
 use Rattle.places.specs.declared.Found.the-variants.{At, Nothing}
-use Rattle.places.proofs.Turns.{left-suc, left-none}
+use Rattle.places.proofs.Folding.{left-suc, left-none}
 use Rattle.places.proofs.Rings.{length-sides, side-at}
 
 -- a list from a place on
@@ -30,9 +30,9 @@ module _ {A S : Type 0} {f : A → S → S} {l : List A} {whole : S} where
   pub take-start : {s : S} → foldList f l s ≡ whole → Taking f l whole 0 s
   take-start e = record { within = zero-le; so = e }
 
-  pub take-turn : {i : ℕ} {s s′ : S} (d : A) → Taking f l whole i s → i < length l → s′ ≡ f (getD l i d) s → Taking f l whole (i + 1) s′
+  pub take-next : {i : ℕ} {s s′ : S} (d : A) → Taking f l whole i s → i < length l → s′ ≡ f (getD l i d) s → Taking f l whole (i + 1) s′
   unfolding foldList
-  take-turn {i} {s} {s′} d p h e = record { within = omega arith; so = rw e (sym (rw (drop-more l i d h)) ∙ p .so) }
+  take-next {i} {s} {s′} d p h e = record { within = omega arith; so = rw e (sym (rw (drop-more l i d h)) ∙ p .so) }
 
   pub take-end : {i : ℕ} {s : S} → Taking f l whole i s → length l ≤ i → s ≡ whole
   unfolding foldList
@@ -70,10 +70,10 @@ module _ {A S : Type 0} {f : A → A → S → S} {l : List A} {whole : S} where
   pub round-start : {s : S} → foldPairs f (sides l) s ≡ whole → Rounding f l whole 0 s
   round-start e = record { within = zero-le; so = e }
 
-  pub round-turn : {i : ℕ} {s s′ : S} (d : A) → Rounding f l whole i s → i < length l
+  pub round-next : {i : ℕ} {s s′ : S} (d : A) → Rounding f l whole i s → i < length l
       → s′ ≡ f (getD l i d) (getD l (nextOf i (length l)) d) s → Rounding f l whole (i + 1) s′
   unfolding foldPairs
-  round-turn {i} {s} {s′} d p h e =
+  round-next {i} {s} {s′} d p h e =
       let g : i < length (sides l) = rw (length-sides l) h in
       record { within = omega arith; so = rw e (sym (rw (drop-more (sides l) i (d, d) g, side-at l i d h)) ∙ p .so) }
 
@@ -114,9 +114,9 @@ module _ {A : Type 0} {test : A → Bool} {l : List A} {whole : ℕ} where
   pub count-start : countOf test l ≡ whole → Counting test l whole 0 0
   count-start e = record { within = zero-le; few = zero-le; so = zero-add (countOf test l) ∙ e }
 
-  pub count-turn : {i n n′ : ℕ} (d : A) → Counting test l whole i n → i < length l → n′ ≡ n + pick (test (getD l i d)) 1 0 → Counting test l whole (i + 1) n′
+  pub count-next : {i n n′ : ℕ} (d : A) → Counting test l whole i n → i < length l → n′ ≡ n + pick (test (getD l i d)) 1 0 → Counting test l whole (i + 1) n′
   unfolding countOf
-  count-turn {i} {n} {n′} d p h e =
+  count-next {i} {n} {n′} d p h e =
       record {
         within = omega arith;
         few = omega (arith, p .few, once (test (getD l i d)));

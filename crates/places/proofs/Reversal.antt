@@ -7,10 +7,10 @@ use native.Mathlib.Nat.{not-suc-le-zero, eq-or-lt-of-le}
 use native.Mathlib.Omega.{arith}
 use lib.ListN.{length, getD, set, length-set, length-reverse, List·getD-append}
 use lib.Seq.{ext-getD, getD-at, getD-set-same, getD-set-other}
-use Rattle.places.specs.Lists.{swapped}
-use Rattle.places.proofs.Turns.{foldFrom, Folding, fold-start, fold-turn}
+use Rattle.places.specs.Steps.{swapped}
+use Rattle.places.proofs.Folding.{foldFrom, Folding, fold-start, fold-next}
 
--- a turn of the reversal of n elements: place i changes with the place that is as far from the end
+-- a step of the reversal of n elements: place i changes with the place that is as far from the end
 abbrev pub mirror : {A : Type 0} → A → ℕ → ℕ → List A → List A
 mirror d n i l = swapped d i (n - 1 - i) l
 
@@ -47,12 +47,12 @@ module _ {A : Type 0} (d : A) where
           let z : suc (length xs) - 1 - i ≡ suc (length xs - 1 - i) = omega arith in
           rw (z, reverse-cons x xs) (List·getD-append (reverse xs) (x ∷ []) d i (omega (arith, length-reverse xs)) ∙ r)
 
-  -- ---- the turns from i on leave the places before i and those as near to the end, and mirror the places between
+  -- ---- the steps from i on leave the places before i and those as near to the end, and mirror the places between
   module _ (n : ℕ) where
-    length-turns : (left i : ℕ) (l : List A) → length (foldFrom (mirror d n) left i l) ≡ length l
+    length-mirrored : (left i : ℕ) (l : List A) → length (foldFrom (mirror d n) left i l) ≡ length l
     unfolding foldFrom
-    length-turns zero i l = refl
-    length-turns (suc left) i l = length-turns left (i + 1) (mirror d n i l) ∙ length-swapped i (n - 1 - i) l
+    length-mirrored zero i l = refl
+    length-mirrored (suc left) i l = length-mirrored left (i + 1) (mirror d n i l) ∙ length-swapped i (n - 1 - i) l
 
     before : (left i p : ℕ) (l : List A) → (i + left) * 2 ≤ n → p < i → getD (foldFrom (mirror d n) left i l) p d ≡ getD l p d
     unfolding foldFrom
@@ -86,17 +86,17 @@ module _ {A : Type 0} (d : A) where
         inner c q r = r ∙ swapped-other i (n - 1 - i) (n - 1 - p) l (λ s. omega arith) (λ s. omega arith)
 
   pub mirrored : (l : List A) → foldFrom (mirror d (length l)) (length l / 2) 0 l ≡ reverse l
-  mirrored l = ext-getD d (foldFrom (mirror d (length l)) (length l / 2) 0 l) (reverse l) (length-turns (length l) (length l / 2) 0 l ∙ sym (length-reverse l)) at
+  mirrored l = ext-getD d (foldFrom (mirror d (length l)) (length l / 2) 0 l) (reverse l) (length-mirrored (length l) (length l / 2) 0 l ∙ sym (length-reverse l)) at
     where
       at : (p : ℕ) → p < length (foldFrom (mirror d (length l)) (length l / 2) 0 l) → getD (foldFrom (mirror d (length l)) (length l / 2) 0 l) p d ≡ getD (reverse l) p d
       at p h =
-          let g : p < length l = omega (arith, length-turns (length l) (length l / 2) 0 l) in
+          let g : p < length l = omega (arith, length-mirrored (length l) (length l / 2) 0 l) in
           between (length l) (length l / 2) 0 p l refl (omega arith) (omega arith) (omega arith) (omega arith) ∙ sym (reverse-at l p g)
 
-  -- ---- the loop that turns a list round: its start and its turn; its end is that of every such loop
+  -- ---- the loop that turns a list round: its start and its step; its end is that of every such loop
   pub mirror-start : (n : ℕ) (l : List A) → n ≡ length l → Folding (mirror d n) (n / 2) (reverse l) 0 l
   mirror-start n l e = fold-start (rw e (mirrored l))
 
-  pub mirror-turn : (n : ℕ) {whole s s′ : List A} {i : ℕ} → Folding (mirror d n) (n / 2) whole i s → i < n / 2 → s′ ≡ swapped d i (n - 1 - i) s
+  pub mirror-next : (n : ℕ) {whole s s′ : List A} {i : ℕ} → Folding (mirror d n) (n / 2) whole i s → i < n / 2 → s′ ≡ swapped d i (n - 1 - i) s
       → Folding (mirror d n) (n / 2) whole (i + 1) s′
-  mirror-turn n p h e = fold-turn p h e
+  mirror-next n p h e = fold-next p h e

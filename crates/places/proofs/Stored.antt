@@ -1,10 +1,11 @@
--- From the stored numbers to the points and back: how many points there are, the numbers of the point at a place, what storing a point's numbers does, the first points, and a list whose front was lent and has come back.
+-- From the stored numbers to the points and back: how many points there are, the numbers of the point at a place, what storing a point's numbers does, the numbers over, the first points, and a list whose front was lent and has come back.
 use mathlib.Core.Path.{_≡_, refl, ap, _∙_}
 use mathlib.Core.List.{List, [], _∷_, _++_}
 use Prim.Native.Nat.{ℕ, zero, suc, _+_, _*_, _/_, _%_, _<_}
 use native.Mathlib.Omega.{arith}
 use lib.ListN.{length, getD, set, take, drop}
 use Rattle.places.specs.Stored.{inThrees, inPairs, joined}
+use Rattle.places.specs.Steps.{overThrees, overPairs}
 
 module _ {A : Type 0} where
   pub length-threes : (l : List A) → length (inThrees l) ≡ length l / 3
@@ -57,6 +58,20 @@ module _ {A : Type 0} where
   joined-pairs (a ∷ []) h = absurd (omega arith)
   joined-pairs (a ∷ b ∷ l) h = ap (λ (r : List A). a ∷ b ∷ r) (joined-pairs l (omega arith))
 
+  -- the points and then the numbers over are the whole list: two lists that have both in common are equal
+  pub whole-threes : (l : List A) → l ≡ joined (inThrees l) ++ overThrees l
+  unfolding inThrees overThrees joined
+  whole-threes [] = refl
+  whole-threes (a ∷ []) = refl
+  whole-threes (a ∷ b ∷ []) = refl
+  whole-threes (a ∷ b ∷ c ∷ l) = ap (λ (r : List A). a ∷ b ∷ c ∷ r) (whole-threes l)
+
+  pub whole-pairs : (l : List A) → l ≡ joined (inPairs l) ++ overPairs l
+  unfolding inPairs overPairs joined
+  whole-pairs [] = refl
+  whole-pairs (a ∷ []) = refl
+  whole-pairs (a ∷ b ∷ l) = ap (λ (r : List A). a ∷ b ∷ r) (whole-pairs l)
+
   -- storing two numbers from 2 i on is storing a point at i
   pub pairs-set : (l : List A) (i : ℕ) (a b : A) → i < length l / 2 → inPairs (set (set l (i * 2) a) (i * 2 + 1) b) ≡ set (inPairs l) i (a ∷ b ∷ [])
   unfolding inPairs
@@ -67,6 +82,17 @@ module _ {A : Type 0} where
       let e : suc i * 2 ≡ suc (suc (i * 2)) = omega arith in
       let e1 : suc (suc (i * 2)) + 1 ≡ suc (suc (i * 2 + 1)) = omega arith in
       rw (e, e1) (ap (λ (r : List (List A)). (x ∷ y ∷ []) ∷ r) (pairs-set l i a b (omega arith)))
+
+  -- and the number over stays
+  pub over-pairs-set : (l : List A) (i : ℕ) (a b : A) → i < length l / 2 → overPairs (set (set l (i * 2) a) (i * 2 + 1) b) ≡ overPairs l
+  unfolding overPairs
+  over-pairs-set [] i a b h = absurd (omega arith)
+  over-pairs-set (x ∷ []) i a b h = absurd (omega arith)
+  over-pairs-set (x ∷ y ∷ l) zero a b h = refl
+  over-pairs-set (x ∷ y ∷ l) (suc i) a b h =
+      let e : suc i * 2 ≡ suc (suc (i * 2)) = omega arith in
+      let e1 : suc (suc (i * 2)) + 1 ≡ suc (suc (i * 2 + 1)) = omega arith in
+      rw (e, e1) (over-pairs-set l i a b (omega arith))
 
   -- a point of the plane is its two numbers
   pub pairs-whole : (l : List A) (i : ℕ) (d : A) → i < length (inPairs l) → getD (getD (inPairs l) i []) 0 d ∷ getD (getD (inPairs l) i []) 1 d ∷ [] ≡ getD (inPairs l) i []
@@ -107,6 +133,19 @@ module _ {A : Type 0} where
   pub threes-set : (l : List A) (i : ℕ) (p : List A) (d : A) → length p ≡ 3 → i < length l / 3
       → inThrees (set (set (set l (i * 3) (getD p 0 d)) (i * 3 + 1) (getD p 1 d)) (i * 3 + 2) (getD p 2 d)) ≡ set (inThrees l) i p
   threes-set l i p d g h = threes-put l i (getD p 0 d) (getD p 1 d) (getD p 2 d) h ∙ ap (set (inThrees l) i) (three-of p d g)
+
+  -- and the numbers over stay
+  pub over-threes-set : (l : List A) (i : ℕ) (a b c : A) → i < length l / 3
+      → overThrees (set (set (set l (i * 3) a) (i * 3 + 1) b) (i * 3 + 2) c) ≡ overThrees l
+  unfolding overThrees
+  over-threes-set [] i a b c h = absurd (omega arith)
+  over-threes-set (x ∷ []) i a b c h = absurd (omega arith)
+  over-threes-set (x ∷ y ∷ []) i a b c h = absurd (omega arith)
+  over-threes-set (x ∷ y ∷ z ∷ l) zero a b c h = refl
+  over-threes-set (x ∷ y ∷ z ∷ l) (suc i) a b c h =
+      let e1 : suc (suc (suc (i * 3))) + 1 ≡ suc (suc (suc (i * 3 + 1))) = omega arith in
+      let e2 : suc (suc (suc (i * 3))) + 2 ≡ suc (suc (suc (i * 3 + 2))) = omega arith in
+      rw (three-more i, e1, e2) (over-threes-set l i a b c (omega arith))
 
   -- a point of the plane from its two numbers
   pub pairs-put : (l : List A) (i : ℕ) (p : List A) (d : A) → length p ≡ 2 → i < length l / 2

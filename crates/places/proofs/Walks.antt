@@ -20,9 +20,9 @@ module _ {A S : Type 0} {f : A → A → S → S} {l : List A} {whole : S} where
       go [] h e = absurd (omega arith)
       go (x ∷ xs) h e = e
 
-  pub walk-turn : {z a b : A} {i : ℕ} {s s′ : S} (d : A) → Walking f l whole z i a s → i < length l → b ≡ getD l i d → s′ ≡ f a b s → Walking f l whole z (i + 1) b s′
+  pub walk-next : {z a b : A} {i : ℕ} {s s′ : S} (d : A) → Walking f l whole z i a s → i < length l → b ≡ getD l i d → s′ ≡ f a b s → Walking f l whole z (i + 1) b s′
   unfolding foldPairs
-  walk-turn {z} {a} {b} {i} {s} {s′} d w h q e = record { within = omega arith; so = rw (e, q) (sym (rw (drop-more l i d h)) ∙ w .so) }
+  walk-next {z} {a} {b} {i} {s} {s′} d w h q e = record { within = omega arith; so = rw (e, q) (sym (rw (drop-more l i d h)) ∙ w .so) }
 
   pub walk-end : {z a : A} {i : ℕ} {s s′ : S} → Walking f l whole z i a s → length l ≤ i → s′ ≡ f a z s → s′ ≡ whole
   unfolding foldPairs

@@ -1,5 +1,5 @@
 -- Points as they are stored: the numbers of one point after those of another, three a point of space or two a point of the plane.
--- This is the only file that speaks of it; every other definition is over points.
+-- This is the only file that speaks of it (Steps.antt adds the numbers over, which make no point); every other definition is over points.
 use mathlib.Core.List.{List, [], _∷_, _++_}
 
 -- the points of a list that is stored in threes; one or two numbers over make no point

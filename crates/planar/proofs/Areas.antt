@@ -13,12 +13,13 @@ use Rattle.floats.specs.F64.{zero64}
 use Rattle.floats.specs.Pick.{magnitudeOf}
 use Rattle.flat.specs.Points.{Point}
 use Rattle.flat.specs.Flat.{summedAreaOf, signedAreaOf}
-use Rattle.work.specs.declared.Clipped.the-variants.{Nothing, Outline}
-use Rattle.work.specs.declared.Clipped.the-variants as clipped
-use Rattle.work.specs.Work.{Outcome, nothing, noRoom, outline, outlineOf, Ended}
-use Rattle.work.proofs.Endings.{reads-pairs, nothing-left, refused-is, outline-left}
+use Rattle.work_lists.specs.declared.Left.the-variants.{Nothing, Outline}
+use Rattle.work_lists.specs.declared.Left.the-variants as clipped
+use Rattle.work_lists.specs.WorkLists.{Outcome, nothing, noRoom, outline, outlineOf}
+use Rattle.work_lists.specs.Steps.{Ended}
+use Rattle.work_lists.proofs.Endings.{reads-pairs, nothing-left, room-lacks, outline-left}
 use Rattle.places.proofs.Stored.{pairs-take}
-use Rattle.work.specs.declared.Measured.the-variants.{Is, Refused}
+use Rattle.work_lists.specs.declared.Sum.the-variants.{Is, NoRoom}
 use Rattle.planar.specs.Planar.{intersectionAreaOf, areaAnswer}
 
 -- nothing has the area +0
@@ -36,8 +37,8 @@ area-is (outline second ps) h = refl
 pub area-none : {o : Outcome} {a b : List Point} → Ended o Nothing a b → Is zero64 ≡ areaAnswer o
 area-none {o} q = rw (← no-area, ← nothing-left q .1) (area-is o (nothing-left q .0))
 
-pub area-refused : {o : Outcome} {k : ℕ} {a b : List Point} → Ended o (clipped.Refused k) a b → Refused k ≡ areaAnswer o
-area-refused q = rw (refused-is q .0, refused-is q .1)
+pub area-refused : {o : Outcome} {a b : List Point} → Ended o clipped.NoRoom a b → NoRoom ≡ areaAnswer o
+area-refused q = rw (room-lacks q)
 
 pub area-shown : {o : Outcome} {n : ℕ} {second : Bool} (a b : List Float) {l : List Float} {s x : Float}
     → Ended o (Outline n second) (inPairs a) (inPairs b) → l ≡ take (n * 2) (pick second b a) → s ≡ signedAreaOf (inPairs l) → x ≡ magnitudeOf s → Is x ≡ areaAnswer o

@@ -1,2 +1,1 @@
 pub mod Planar
-pub mod Rows

@@ -9,10 +9,10 @@ use Rattle.places.specs.Ring.{sides}
 use Rattle.floats.specs.Pick.{magnitudeOf}
 use Rattle.flat.specs.Points.{Point}
 use Rattle.flat.specs.Flat.{signedAreaOf}
-use Rattle.work.specs.Work.{Change, gone, full, made, Outcome, nothing, noRoom, outline, clippedOf, outlineOf}
-use Rattle.trim.specs.Trim.{trimmedAt}
-use Rattle.work.specs.declared.Measured.{Measured}
-use Rattle.work.specs.declared.Measured.the-variants.{Is, Refused}
+use Rattle.work_lists.specs.WorkLists.{Change, gone, full, made, Outcome, nothing, noRoom, outline, clippedOf, outlineOf}
+use Rattle.clip_step.specs.ClipStep.{trimmedAt}
+use Rattle.work_lists.specs.declared.Sum.{Sum}
+use Rattle.work_lists.specs.declared.Sum.the-variants.{Is, NoRoom}
 
 -- what an edge makes of an outline: before each edge one under 3 points is emptied; every edge is a cut
 unfoldable pub edgeChange : ℕ → Point × Point → List Point → Change
@@ -28,8 +28,8 @@ clipConvexOf room subject clip = clippedOf room (edgeChange room) (sides clip) s
 unfoldable pub intersectionAreaOf : Outcome → Float
 intersectionAreaOf left = magnitudeOf (signedAreaOf (outlineOf left))
 
--- the paper's answer: the area, also of nothing; or 6 where there is no room
-abbrev pub areaAnswer : Outcome → Measured
+-- the area, also of nothing; or that there is no room
+abbrev pub areaAnswer : Outcome → Sum
 areaAnswer nothing = Is (intersectionAreaOf nothing)
-areaAnswer noRoom = Refused 6
+areaAnswer noRoom = NoRoom
 areaAnswer (outline second ps) = Is (intersectionAreaOf (outline second ps))

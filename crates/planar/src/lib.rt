@@ -1,27 +1,28 @@
 // An outline of the plane clipped by the edges of another, from one work list into the other and back; and the area of what is left.
-use work::Clipped;
-use work::Measured;
-use work::Step;
+use work_lists::Left;
+use work_lists::Step;
+use work_lists::Sum;
 ghost use mathlib.Core.Path.{_≡_};
 ghost use mathlib.Core.Bool.{false};
 ghost use Prim.Native.Nat.{_<_, _≤_};
 ghost use lib.ListN.{length, take};
+ghost use Rattle.places.specs.Limits.{mostWorkNumbers};
 ghost use Rattle.places.specs.Stored.{inPairs};
 ghost use Rattle.places.specs.Ring.{sides};
-ghost use Rattle.work.specs.Work.{runOf, shorterOf, Ended, Settled};
-ghost use Rattle.work.specs.Steps.{Shows, Moved};
+ghost use Rattle.work_lists.specs.WorkLists.{runOf, shorterOf};
+ghost use Rattle.work_lists.specs.Steps.{Ended, Settled, Shows, Moved};
 ghost use Rattle.planar.specs.Planar.{edgeChange, clipConvexOf, areaAnswer};
 
 // What the edge from a to b makes of an outline.
 fn advance(src: &[f64], dst: &mut [f64], room: usize, a: [f64; 2], b: [f64; 2]) -> Step
-    requires { ⌜ length (now src) ≤ 3072 ⌝ }
+    requires { ⌜ length (now src) ≤ mostWorkNumbers ⌝ }
     requires { ⌜ room ≤ length (inPairs (now dst)) ⌝ }
     ensures { λ r. ⌜ Shows room (edgeChange room (a, b) (inPairs (now (src .entry)))) r (inPairs (now (dst .exit))) ⌝ }
 {
     if src.len() / 2 < 3 {
         return Step::Gone;
     }
-    let m = trim::edge::trim_at_edge(src, dst, a, b);
+    let m = clip_step::edge::trim_at_edge(src, dst, a, b);
     if room < m {
         return Step::Full;
     }
@@ -38,7 +39,7 @@ fn advance_from(
     a: [f64; 2],
     b: [f64; 2],
 ) -> Step
-    requires { ⌜ (length (now first) ≤ 3072) × (length (now second) ≤ 3072) ⌝ }
+    requires { ⌜ (length (now first) ≤ mostWorkNumbers) × (length (now second) ≤ mostWorkNumbers) ⌝ }
     requires { ⌜ (n ≤ room) × (room ≤ length (inPairs (now first))) × (room ≤ length (inPairs (now second))) ⌝ }
     ensures { λ r. ⌜ Moved room (edgeChange room) (a, b) n in_second (inPairs (now (first .entry))) (inPairs (now (second .entry))) r (inPairs (now (first .exit))) (inPairs (now (second .exit))) ⌝ }
 {
@@ -49,8 +50,8 @@ fn advance_from(
 }
 
 // The edges one after the other, from the outline of n points in the first list on.
-fn run(first: &mut [f64], second: &mut [f64], count: usize, room: usize, clip: &[f64]) -> Clipped
-    requires { ⌜ (length (now first) ≤ 3072) × (length (now second) ≤ 3072) ⌝ }
+fn run(first: &mut [f64], second: &mut [f64], count: usize, room: usize, clip: &[f64]) -> Left
+    requires { ⌜ (length (now first) ≤ mostWorkNumbers) × (length (now second) ≤ mostWorkNumbers) ⌝ }
     requires { ⌜ (count ≤ room) × (room ≤ length (inPairs (now first))) × (room ≤ length (inPairs (now second))) ⌝ }
     ensures { λ r. ⌜ Ended (runOf (edgeChange room) (sides (inPairs (now (clip .entry)))) false (take count (inPairs (now (first .entry))))) r (inPairs (now (first .exit))) (inPairs (now (second .exit))) ⌝ }
 {
@@ -64,8 +65,8 @@ fn run(first: &mut [f64], second: &mut [f64], count: usize, room: usize, clip: &
         i += 1;
         match advance_from(first, second, in_second, n, room, a, b) {
             Step::Kept => {}
-            Step::Gone => return Clipped::Nothing,
-            Step::Full => return Clipped::Refused(6),
+            Step::Gone => return Left::Nothing,
+            Step::Full => return Left::NoRoom,
             Step::Made(left) => {
                 n = left;
                 in_second = !in_second;
@@ -73,36 +74,36 @@ fn run(first: &mut [f64], second: &mut [f64], count: usize, room: usize, clip: &
         }
     }
     if n == 0 {
-        return Clipped::Nothing;
+        return Left::Nothing;
     }
-    Clipped::Outline(n, in_second)
+    Left::Outline(n, in_second)
 }
 
 // The points of an outline laid down at the front of a list.
 fn gather(src: &[f64], dst: &mut [f64])
     requires { ⌜ length (inPairs (now src)) ≤ length (inPairs (now dst)) ⌝ }
-    requires { ⌜ length (now src) ≤ 3072 ⌝ }
+    requires { ⌜ length (now src) ≤ mostWorkNumbers ⌝ }
     ensures { λ _. ⌜ take (length (inPairs (now (src .entry)))) (inPairs (now (dst .exit))) ≡ inPairs (now (src .entry)) ⌝ }
 {
     let n = src.len() / 2;
     let mut i = 0;
     while i < n {
-        trim::edge::put(dst, i, outline::pair(src, i));
+        clip_step::edge::put(dst, i, outline::pair(src, i));
         i += 1;
     }
 }
 
 // An outline clipped by the edges of another: the answer, with the outline at the front of its list. Both lists keep what else was written.
 // Ruled out: a subject of 2 points emptied when there is no edge; a program that leaves out the edge from the last point to the first.
-pub fn clip_convex(subject: &[f64], clip: &[f64], first: &mut [f64], second: &mut [f64]) -> Clipped
+fn clip_convex(subject: &[f64], clip: &[f64], first: &mut [f64], second: &mut [f64]) -> Left
     requires { ⌜ (length (now subject) ≤ 1024) × (length (now clip) ≤ 1024) ⌝ }
-    requires { ⌜ (length (now first) ≤ 3072) × (length (now second) ≤ 3072) ⌝ }
+    requires { ⌜ (length (now first) ≤ mostWorkNumbers) × (length (now second) ≤ mostWorkNumbers) ⌝ }
     ensures { λ r. ⌜ Ended (clipConvexOf (shorterOf (length (inPairs (now (first .entry)))) (length (inPairs (now (second .entry))))) (inPairs (now (subject .entry))) (inPairs (now (clip .entry)))) r (inPairs (now (first .exit))) (inPairs (now (second .exit))) ⌝ }
 {
-    let room = work::shorter(first.len() / 2, second.len() / 2);
+    let room = work_lists::shorter(first.len() / 2, second.len() / 2);
     let n = subject.len() / 2;
     if room < n {
-        return Clipped::Refused(6);
+        return Left::NoRoom;
     }
     gather(subject, first);
     run(first, second, n, room, clip)
@@ -115,13 +116,13 @@ pub fn clip_convex_shown(
     clip: &[f64],
     first: &mut [f64],
     second: &mut [f64],
-) -> Clipped
+) -> Left
     requires { ⌜ (length (now subject) ≤ 1024) × (length (now clip) ≤ 1024) ⌝ }
-    requires { ⌜ (length (now first) ≤ 3072) × (length (now second) ≤ 3072) ⌝ }
+    requires { ⌜ (length (now first) ≤ mostWorkNumbers) × (length (now second) ≤ mostWorkNumbers) ⌝ }
     ensures { λ r. ⌜ Settled (clipConvexOf (shorterOf (length (inPairs (now (first .entry)))) (length (inPairs (now (second .entry))))) (inPairs (now (subject .entry))) (inPairs (now (clip .entry)))) r (now (first .entry)) (now (second .entry)) (now (first .exit)) (now (second .exit)) ⌝ }
 {
     let r = clip_convex(subject, clip, first, second);
-    work::settle_answer(first, second, r, 2);
+    work_lists::settle_answer(first, second, r, 2);
     r
 }
 
@@ -132,17 +133,17 @@ pub fn convex_intersection_area(
     clip: &[f64],
     first: &mut [f64],
     second: &mut [f64],
-) -> Measured
+) -> Sum
     requires { ⌜ (length (now subject) ≤ 1024) × (length (now clip) ≤ 1024) ⌝ }
-    requires { ⌜ (length (now first) ≤ 3072) × (length (now second) ≤ 3072) ⌝ }
+    requires { ⌜ (length (now first) ≤ mostWorkNumbers) × (length (now second) ≤ mostWorkNumbers) ⌝ }
     ensures { λ r. ⌜ r ≡ areaAnswer (clipConvexOf (shorterOf (length (inPairs (now (first .entry)))) (length (inPairs (now (second .entry))))) (inPairs (now (subject .entry))) (inPairs (now (clip .entry)))) ⌝ }
 {
     match clip_convex(subject, clip, first, second) {
-        Clipped::Nothing => Measured::Is(0.0),
-        Clipped::Outline(n, in_second) => {
-            let ps = work::shown(first, second, n * 2, in_second);
-            Measured::Is(floats::magnitude(outline::signed_area2(ps)))
+        Left::Nothing => Sum::Is(0.0),
+        Left::Outline(n, in_second) => {
+            let ps = work_lists::shown(first, second, n * 2, in_second);
+            Sum::Is(floats::magnitude(outline::signed_area2(ps)))
         }
-        Clipped::Refused(k) => Measured::Refused(k),
+        Left::NoRoom => Sum::NoRoom,
     }
 }

@@ -47,8 +47,8 @@ module _ {A : Type 0} {f : List ℕ → A} {c es : List ℕ} {whole out : List A
   pub lay-corner : {e : ℕ} → Laying f c es whole p k out → k < length es → e ≡ getD es k 0 → 0 < length (slice p e c)
   lay-corner {e} l h q = has-corner (slice p e c) (lay-solid l h q)
 
-  pub lay-turn : {e : ℕ} {out′ : List A} → Laying f c es whole p k out → k < length es → e ≡ getD es k 0 → out′ ≡ set out k (f (slice p e c)) → Laying f c es whole e (k + 1) out′
-  lay-turn {e} {out′} l h q g =
+  pub lay-next : {e : ℕ} {out′ : List A} → Laying f c es whole p k out → k < length es → e ≡ getD es k 0 → out′ ≡ set out k (f (slice p e c)) → Laying f c es whole e (k + 1) out′
+  lay-next {e} {out′} l h q g =
       record {
         solid = faces-no (l .solid) h q (lay-solid l h q);
         room = rw (g, length-set) (l .room);

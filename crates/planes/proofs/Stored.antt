@@ -7,7 +7,8 @@ use lib.ListN.{length, getD, set, take, drop}
 use lib.Ieee.{Float}
 use Rattle.flat.specs.Points.{at}
 use Rattle.planes.specs.declared.Plane.{Plane}
-use Rattle.planes.specs.Planes.{inFours, noPlane}
+use Rattle.planes.specs.Planes.{inFours}
+use Rattle.planes.specs.Steps.{noPlane}
 
 pub length-fours : (l : List Float) → length (inFours l) ≡ length l / 4
 unfolding inFours

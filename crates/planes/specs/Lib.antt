@@ -1,1 +1,2 @@
 pub mod Planes
+pub mod Steps

@@ -58,7 +58,3 @@ inFours (a ∷ []) = []
 inFours (a ∷ b ∷ []) = []
 inFours (a ∷ b ∷ c ∷ []) = []
 inFours (a ∷ b ∷ c ∷ d ∷ l) = record { n = a ∷ b ∷ c ∷ []; d = d } ∷ inFours l
-
--- no plane stands there
-abbrev pub noPlane : Plane
-noPlane = record { n = []; d = one64 }

@@ -3,11 +3,14 @@ ghost use mathlib.Core.Path.{_≡_};
 ghost use mathlib.Core.List.{[]};
 ghost use Prim.Native.Nat.{_+_, _*_, _<_, _≤_};
 ghost use lib.ListN.{length, getD, set};
-ghost use Rattle.flat.specs.Points.{verticesOf, Inside, cornersOf};
+ghost use Rattle.flat.specs.Points.{verticesOf, cornersOf};
+ghost use Rattle.flat.specs.Steps.{Inside};
 ghost use Rattle.cell.specs.Faces.{facesOf};
-ghost use Rattle.cell.specs.Refusals.{Sound, emptyRefused};
+ghost use Rattle.cell.specs.Refusals.{emptyRefused};
+ghost use Rattle.cell.specs.Steps.{Sound};
 ghost use mathlib.Core.Bool.{false};
-ghost use Rattle.planes.specs.Planes.{dotOf, offsetOf, unitPlane, planeOf, planesOf, distanceOf, sameSide, coplanarOpposite, inFours, noPlane};
+ghost use Rattle.planes.specs.Planes.{dotOf, offsetOf, unitPlane, planeOf, planesOf, distanceOf, sameSide, coplanarOpposite, inFours};
+ghost use Rattle.planes.specs.Steps.{noPlane};
 
 // A unit normal and an offset; inside is n · x <= d.
 pub struct Plane {
@@ -30,7 +33,7 @@ pub fn offset(n: [f64; 3], p: [f64; 3]) -> f64
 
 // The plane n · x + d = 0 with its normal brought to length 1.
 // Ruled out: an offset left on its side, d for -d; a norm that is the root of the three squares' sum, which rounds otherwise.
-pub fn unit_plane(n: [f64; 3], d: f64) -> Plane
+fn unit_plane(n: [f64; 3], d: f64) -> Plane
     ensures { λ r. ⌜ r ≡ unitPlane n d ⌝ }
 {
     let inv = 1.0 / floats::length(floats::length(n[0], n[1]), n[2]);

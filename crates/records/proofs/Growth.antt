@@ -11,7 +11,7 @@ use borrow.Author.Tests.{eqb-true, ne-eqb}
 use Rattle.places.specs.Loops.{pick}
 use Rattle.records.specs.declared.bytes.Rec.{Rec}
 use Rattle.records.specs.declared.tally.Tally.{Tally}
-use Rattle.records.specs.Tally.{vertexWhy, cornerWhy, faceEndWhy, cellEndWhy, queryWhy, vertexOf, cornerOf, faceEndOf, cellEndOf, queryOf, refusedOf, tallyOf, pointOf, added}
+use Rattle.records.specs.Tally.{vertexWhy, cornerWhy, faceEndWhy, cellEndWhy, queryWhy, vertexTaken, cornerTaken, faceEndTaken, cellEndTaken, queryTaken, refusedOf, tallyOf, fieldsOf, added}
 use Rattle.records.specs.Tally.{withVertex, withCorner, withFace, withEnd, withQuery, cornerFine, endFine, newCoords, newCorners, newEnds, newQueries, Fits}
 use Rattle.records.proofs.Tests.{why-room}
 
@@ -52,11 +52,11 @@ module _ (t : Tally) (r : Rec) (f : Fits t) where
   settled true w x y z v n h = h refl
   settled false w x y z v n h = refused w
 
-  vertex : Follows t (added (vertexWhy t r) (pointOf r)) [] [] [] (vertexOf t r)
-  unfolding vertexOf
+  vertex : Follows t (added (vertexWhy t r) (fieldsOf r)) [] [] [] (vertexTaken t r)
+  unfolding vertexTaken
   vertex =
       let b = eqb (vertexWhy t r) 0 in
-      rw (nothing {A = ℕ} b, nothing {A = Float} b) at (settled b (vertexWhy t r) (pointOf r) [] [] [] (withVertex t) (λ e.
+      rw (nothing {A = ℕ} b, nothing {A = Float} b) at (settled b (vertexWhy t r) (fieldsOf r) [] [] [] (withVertex t) (λ e.
       let n = why-room (r .clear) (t .verts) 256 (eqb-true (vertexWhy t r) 0 e) in
       record {
         number = refl;
@@ -67,11 +67,11 @@ module _ (t : Tally) (r : Rec) (f : Fits t) where
         fits = record { few-verts = omega arith; few-corners = f .few-corners; few-faces = f .few-faces; few-queries = f .few-queries };
       }))
 
-  query : Follows t [] [] [] (added (queryWhy t r) (pointOf r)) (queryOf t r)
-  unfolding queryOf
+  query : Follows t [] [] [] (added (queryWhy t r) (fieldsOf r)) (queryTaken t r)
+  unfolding queryTaken
   query =
       let b = eqb (queryWhy t r) 0 in
-      rw (nothing {A = ℕ} b, nothing {A = Float} b) at (settled b (queryWhy t r) [] [] [] (pointOf r) (withQuery t) (λ e.
+      rw (nothing {A = ℕ} b, nothing {A = Float} b) at (settled b (queryWhy t r) [] [] [] (fieldsOf r) (withQuery t) (λ e.
       let n = why-room (r .clear) (t .queries) 256 (eqb-true (queryWhy t r) 0 e) in
       record {
         number = refl;
@@ -82,8 +82,8 @@ module _ (t : Tally) (r : Rec) (f : Fits t) where
         fits = record { few-verts = f .few-verts; few-corners = f .few-corners; few-faces = f .few-faces; few-queries = omega arith };
       }))
 
-  corner : Follows t [] (added (cornerWhy t r) (r .a ∷ [])) [] [] (cornerOf t r)
-  unfolding cornerOf
+  corner : Follows t [] (added (cornerWhy t r) (r .a ∷ [])) [] [] (cornerTaken t r)
+  unfolding cornerTaken
   corner =
       let b = eqb (cornerWhy t r) 0 in
       rw (nothing {A = ℕ} b, nothing {A = Float} b) at (settled b (cornerWhy t r) [] (r .a ∷ []) [] [] (withCorner t) (λ e.
@@ -97,8 +97,8 @@ module _ (t : Tally) (r : Rec) (f : Fits t) where
         fits = record { few-verts = f .few-verts; few-corners = omega arith; few-faces = f .few-faces; few-queries = f .few-queries };
       }))
 
-  face-end : Follows t [] [] (added (faceEndWhy t r) (t .corners ∷ [])) [] (faceEndOf t r)
-  unfolding faceEndOf
+  face-end : Follows t [] [] (added (faceEndWhy t r) (t .corners ∷ [])) [] (faceEndTaken t r)
+  unfolding faceEndTaken
   face-end =
       let b = eqb (faceEndWhy t r) 0 in
       rw (nothing {A = ℕ} b, nothing {A = Float} b) at (settled b (faceEndWhy t r) [] [] (t .corners ∷ []) [] (withFace t) (λ e.
@@ -112,8 +112,8 @@ module _ (t : Tally) (r : Rec) (f : Fits t) where
         fits = record { few-verts = f .few-verts; few-corners = f .few-corners; few-faces = omega arith; few-queries = f .few-queries };
       }))
 
-  cell-end : Follows t [] [] [] [] (cellEndOf t r)
-  unfolding cellEndOf
+  cell-end : Follows t [] [] [] [] (cellEndTaken t r)
+  unfolding cellEndTaken
   cell-end =
       let b = eqb (cellEndWhy t r) 0 in
       rw (nothing {A = ℕ} b, nothing {A = Float} b) at (settled b (cellEndWhy t r) [] [] [] [] (withEnd t) (λ e.
@@ -127,11 +127,11 @@ module _ (t : Tally) (r : Rec) (f : Fits t) where
       }))
 
   by-kind : (k : ℕ)
-      → Follows t (pick (eqb k 1) (added (vertexWhy t r) (pointOf r)) []) (pick (eqb k 2) (added (cornerWhy t r) (r .a ∷ [])) [])
-      (pick (eqb k 3) (added (faceEndWhy t r) (t .corners ∷ [])) []) (pick (eqb k 5) (added (queryWhy t r) (pointOf r)) [])
-      (pick (eqb k 1) (vertexOf t r)
-      (pick (eqb k 2) (cornerOf t r)
-      (pick (eqb k 3) (faceEndOf t r) (pick (eqb k 4) (cellEndOf t r) (pick (eqb k 5) (queryOf t r) (refusedOf t 7))))))
+      → Follows t (pick (eqb k 1) (added (vertexWhy t r) (fieldsOf r)) []) (pick (eqb k 2) (added (cornerWhy t r) (r .a ∷ [])) [])
+      (pick (eqb k 3) (added (faceEndWhy t r) (t .corners ∷ [])) []) (pick (eqb k 5) (added (queryWhy t r) (fieldsOf r)) [])
+      (pick (eqb k 1) (vertexTaken t r)
+      (pick (eqb k 2) (cornerTaken t r)
+      (pick (eqb k 3) (faceEndTaken t r) (pick (eqb k 4) (cellEndTaken t r) (pick (eqb k 5) (queryTaken t r) (refusedOf t 7))))))
   by-kind zero = refused 7
   by-kind (suc zero) = vertex
   by-kind (suc (suc zero)) = corner
@@ -148,10 +148,10 @@ module _ (t : Tally) (r : Rec) (f : Fits t) where
   tally-follows = go (eqb (t .refusal) 0)
     where
       go : (b : Bool)
-          → Follows t (pick (b && eqb (r .kind) 1) (added (vertexWhy t r) (pointOf r)) []) (pick (b && eqb (r .kind) 2) (added (cornerWhy t r) (r .a ∷ [])) [])
-          (pick (b && eqb (r .kind) 3) (added (faceEndWhy t r) (t .corners ∷ [])) []) (pick (b && eqb (r .kind) 5) (added (queryWhy t r) (pointOf r)) [])
-          (pick b (pick (eqb (r .kind) 1) (vertexOf t r)
-          (pick (eqb (r .kind) 2) (cornerOf t r)
-          (pick (eqb (r .kind) 3) (faceEndOf t r) (pick (eqb (r .kind) 4) (cellEndOf t r) (pick (eqb (r .kind) 5) (queryOf t r) (refusedOf t 7)))))) t)
+          → Follows t (pick (b && eqb (r .kind) 1) (added (vertexWhy t r) (fieldsOf r)) []) (pick (b && eqb (r .kind) 2) (added (cornerWhy t r) (r .a ∷ [])) [])
+          (pick (b && eqb (r .kind) 3) (added (faceEndWhy t r) (t .corners ∷ [])) []) (pick (b && eqb (r .kind) 5) (added (queryWhy t r) (fieldsOf r)) [])
+          (pick b (pick (eqb (r .kind) 1) (vertexTaken t r)
+          (pick (eqb (r .kind) 2) (cornerTaken t r)
+          (pick (eqb (r .kind) 3) (faceEndTaken t r) (pick (eqb (r .kind) 4) (cellEndTaken t r) (pick (eqb (r .kind) 5) (queryTaken t r) (refusedOf t 7)))))) t)
       go true = by-kind (r .kind)
       go false = none

@@ -4,9 +4,9 @@ use mathlib.Core.Path.{_≡_}
 use mathlib.Core.List.{List, [], _∷_}
 use mathlib.Core.Bool.{Bool, true, false, not, _&&_}
 use lib.ListN.{length}
-use lib.Seq.{sets}
 use lib.Dec.{eqb, ltb}
 use lib.Ieee.{Float, binary64, ofBits}
+use Rattle.places.specs.Limits.{mostVertices, mostCoordinates, mostFaces, mostCorners, mostQueries}
 use Rattle.places.specs.Loops.{pick}
 use Rattle.records.specs.declared.bytes.Rec.{Rec}
 use Rattle.records.specs.declared.tally.Tally.{Tally}
@@ -25,20 +25,20 @@ unfoldable pub endFine : Rec → Bool
 endFine r = r .clear && (eqb (r .a) 0 && (eqb (r .b) 0 && eqb (r .c) 0))
 
 abbrev pub vertexWhy : Tally → Rec → ℕ
-vertexWhy t r = whyOf (r .clear) (ltb (t .verts) 256)
+vertexWhy t r = whyOf (r .clear) (ltb (t .verts) mostVertices)
 
 abbrev pub cornerWhy : Tally → Rec → ℕ
-cornerWhy t r = whyOf (cornerFine r) (ltb (t .corners) 2048)
+cornerWhy t r = whyOf (cornerFine r) (ltb (t .corners) mostCorners)
 
 abbrev pub faceEndWhy : Tally → Rec → ℕ
-faceEndWhy t r = whyOf (endFine r) (ltb (t .faces) 256)
+faceEndWhy t r = whyOf (endFine r) (ltb (t .faces) mostFaces)
 
 -- a cell end with an open face is bad
 abbrev pub cellEndWhy : Tally → Rec → ℕ
 cellEndWhy t r = whyOf (endFine r && not (t .loose)) true
 
 abbrev pub queryWhy : Tally → Rec → ℕ
-queryWhy t r = whyOf (r .clear) (ltb (t .queries) 256)
+queryWhy t r = whyOf (r .clear) (ltb (t .queries) mostQueries)
 
 -- ---- the tally
 -- before the first record of cell n
@@ -67,41 +67,41 @@ unless t why next = pick (eqb why 0) next (refusedOf t why)
 abbrev pub withVertex : Tally → Tally
 withVertex t = record { number = t .number; verts = t .verts + 1; corners = t .corners; faces = t .faces; queries = t .queries; loose = t .loose; refusal = t .refusal; begun = true }
 
-unfoldable pub vertexOf : Tally → Rec → Tally
-vertexOf t r = unless t (vertexWhy t r) (withVertex t)
+unfoldable pub vertexTaken : Tally → Rec → Tally
+vertexTaken t r = unless t (vertexWhy t r) (withVertex t)
 
 -- one corner more, of a face that is open from now on
 abbrev pub withCorner : Tally → Tally
 withCorner t = record { number = t .number; verts = t .verts; corners = t .corners + 1; faces = t .faces; queries = t .queries; loose = true; refusal = t .refusal; begun = true }
 
-unfoldable pub cornerOf : Tally → Rec → Tally
-cornerOf t r = unless t (cornerWhy t r) (withCorner t)
+unfoldable pub cornerTaken : Tally → Rec → Tally
+cornerTaken t r = unless t (cornerWhy t r) (withCorner t)
 
 -- one face more, and none is open
 abbrev pub withFace : Tally → Tally
 withFace t = record { number = t .number; verts = t .verts; corners = t .corners; faces = t .faces + 1; queries = t .queries; loose = false; refusal = t .refusal; begun = true }
 
-unfoldable pub faceEndOf : Tally → Rec → Tally
-faceEndOf t r = unless t (faceEndWhy t r) (withFace t)
+unfoldable pub faceEndTaken : Tally → Rec → Tally
+faceEndTaken t r = unless t (faceEndWhy t r) (withFace t)
 
 -- no more of anything
 abbrev pub withEnd : Tally → Tally
 withEnd t = record { number = t .number; verts = t .verts; corners = t .corners; faces = t .faces; queries = t .queries; loose = t .loose; refusal = t .refusal; begun = true }
 
-unfoldable pub cellEndOf : Tally → Rec → Tally
-cellEndOf t r = unless t (cellEndWhy t r) (withEnd t)
+unfoldable pub cellEndTaken : Tally → Rec → Tally
+cellEndTaken t r = unless t (cellEndWhy t r) (withEnd t)
 
 -- one query point more
 abbrev pub withQuery : Tally → Tally
 withQuery t = record { number = t .number; verts = t .verts; corners = t .corners; faces = t .faces; queries = t .queries + 1; loose = t .loose; refusal = t .refusal; begun = true }
 
-unfoldable pub queryOf : Tally → Rec → Tally
-queryOf t r = unless t (queryWhy t r) (withQuery t)
+unfoldable pub queryTaken : Tally → Rec → Tally
+queryTaken t r = unless t (queryWhy t r) (withQuery t)
 
 -- ---- what a record adds to the cell's lists, nothing where it is refused
 -- the three fields as numbers
-abbrev pub pointOf : Rec → List Float
-pointOf r = ofBits binary64 (r .a) ∷ ofBits binary64 (r .b) ∷ ofBits binary64 (r .c) ∷ []
+abbrev pub fieldsOf : Rec → List Float
+fieldsOf r = ofBits binary64 (r .a) ∷ ofBits binary64 (r .b) ∷ ofBits binary64 (r .c) ∷ []
 
 -- a list, where nothing speaks against the record
 abbrev pub added : {A : Type 0} → ℕ → List A → List A
@@ -111,11 +111,11 @@ added why xs = pick (eqb why 0) xs []
 unfoldable pub tallyOf : Tally → Rec → Tally
 tallyOf t r =
     pick (eqb (t .refusal) 0)
-    (pick (eqb (r .kind) 1) (vertexOf t r)
-    (pick (eqb (r .kind) 2) (cornerOf t r)
-    (pick (eqb (r .kind) 3) (faceEndOf t r)
-    (pick (eqb (r .kind) 4) (cellEndOf t r)
-    (pick (eqb (r .kind) 5) (queryOf t r)
+    (pick (eqb (r .kind) 1) (vertexTaken t r)
+    (pick (eqb (r .kind) 2) (cornerTaken t r)
+    (pick (eqb (r .kind) 3) (faceEndTaken t r)
+    (pick (eqb (r .kind) 4) (cellEndTaken t r)
+    (pick (eqb (r .kind) 5) (queryTaken t r)
     (refusedOf t 7))))))
     t
 
@@ -125,7 +125,7 @@ takes t r k = eqb (t .refusal) 0 && eqb (r .kind) k
 
 -- to the coordinates a vertex adds its three fields
 unfoldable pub newCoords : Tally → Rec → List Float
-newCoords t r = pick (takes t r 1) (added (vertexWhy t r) (pointOf r)) []
+newCoords t r = pick (takes t r 1) (added (vertexWhy t r) (fieldsOf r)) []
 
 -- to the corners a corner adds its number
 unfoldable pub newCorners : Tally → Rec → List ℕ
@@ -137,27 +137,19 @@ newEnds t r = pick (takes t r 3) (added (faceEndWhy t r) (t .corners ∷ [])) []
 
 -- to the queries a query point adds its three fields
 unfoldable pub newQueries : Tally → Rec → List Float
-newQueries t r = pick (takes t r 5) (added (queryWhy t r) (pointOf r)) []
+newQueries t r = pick (takes t r 5) (added (queryWhy t r) (fieldsOf r)) []
 
 -- ---- the lists that are lent beside the tally
 -- they hold the largest cell
 pub record Sized (coords : List Float) (corners ends : List ℕ) (queries : List Float) : Type 0 where
-  pub for-coords : 768 ≤ length coords
-  pub for-corners : 2048 ≤ length corners
-  pub for-ends : 256 ≤ length ends
-  pub for-queries : 768 ≤ length queries
+  pub for-coords : mostCoordinates ≤ length coords
+  pub for-corners : mostCorners ≤ length corners
+  pub for-ends : mostFaces ≤ length ends
+  pub for-queries : mostCoordinates ≤ length queries
 
 -- the counts are within the limits
 pub record Fits (t : Tally) : Type 0 where
-  pub few-verts : t .verts ≤ 256
-  pub few-corners : t .corners ≤ 2048
-  pub few-faces : t .faces ≤ 256
-  pub few-queries : t .queries ≤ 256
-
--- a record is taken: the next tally, and what it adds is stored behind what the lists hold of the cell
-pub record Tallied (t : Tally) (r : Rec) (a : List Float) (b c : List ℕ) (d : List Float) (u : Tally) (a′ : List Float) (b′ c′ : List ℕ) (d′ : List Float) : Type 0 where
-  pub next : u ≡ tallyOf t r
-  pub coords : a′ ≡ sets a (t .verts * 3) (newCoords t r)
-  pub corners : b′ ≡ sets b (t .corners) (newCorners t r)
-  pub ends : c′ ≡ sets c (t .faces) (newEnds t r)
-  pub queries : d′ ≡ sets d (t .queries * 3) (newQueries t r)
+  pub few-verts : t .verts ≤ mostVertices
+  pub few-corners : t .corners ≤ mostCorners
+  pub few-faces : t .faces ≤ mostFaces
+  pub few-queries : t .queries ≤ mostQueries

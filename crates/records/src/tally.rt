@@ -6,8 +6,11 @@ ghost use Prim.Native.Nat.{_+_, _*_, _≤_};
 ghost use lib.ListN.{length};
 ghost use lib.Dec.{ltb};
 ghost use lib.Seq.{sets};
-ghost use Rattle.records.specs.Tally.{whyOf, cornerFine, endFine, vertexWhy, cornerWhy, faceEndWhy, cellEndWhy, queryWhy, newOf, refusedOf};
-ghost use Rattle.records.specs.Tally.{vertexOf, cornerOf, faceEndOf, cellEndOf, queryOf, pointOf, added, Sized, Fits, Tallied};
+ghost use Rattle.places.specs.Limits.{mostCoordinates, mostFaces, mostCorners};
+ghost use Rattle.records.specs.Tally.{whyOf, cornerFine, endFine, vertexWhy, cornerWhy, faceEndWhy, cellEndWhy, queryWhy, newOf};
+ghost use Rattle.records.specs.Tally.{refusedOf, vertexTaken, cornerTaken, faceEndTaken, cellEndTaken, queryTaken, fieldsOf, added};
+ghost use Rattle.records.specs.Tally.{Sized, Fits};
+ghost use Rattle.records.specs.Steps.{Tallied};
 use crate::bytes::Rec;
 
 // What is known of the cell so far: its number, how much of it came, whether a face has corners and
@@ -66,7 +69,7 @@ fn end_fine(r: Rec) -> bool
 // Stores the three fields as numbers.
 fn put_point(list: &mut [f64], at: usize, r: Rec)
     requires { ⌜ at + 3 ≤ length (now list) ⌝ }
-    ensures { λ _. ⌜ now (list .exit) ≡ sets (now (list .entry)) at (pointOf r) ⌝ }
+    ensures { λ _. ⌜ now (list .exit) ≡ sets (now (list .entry)) at (fieldsOf r) ⌝ }
 {
     list[at] = floats::of_pattern(r.a);
     list[at + 1] = floats::of_pattern(r.b);
@@ -102,11 +105,11 @@ impl Tally {
 
     // Kind 1.
     pub fn vertex(self, r: Rec, coords: &mut [f64]) -> Tally
-        requires { ⌜ 768 ≤ length (now coords) ⌝ }
-        ensures { λ t. ⌜ t ≡ vertexOf self r ⌝ }
-        ensures { λ _. ⌜ now (coords .exit) ≡ sets (now (coords .entry)) (self .verts * 3) (added (vertexWhy self r) (pointOf r)) ⌝ }
+        requires { ⌜ mostCoordinates ≤ length (now coords) ⌝ }
+        ensures { λ t. ⌜ t ≡ vertexTaken self r ⌝ }
+        ensures { λ _. ⌜ now (coords .exit) ≡ sets (now (coords .entry)) (self .verts * 3) (added (vertexWhy self r) (fieldsOf r)) ⌝ }
     {
-        let w = why(r.clear, self.verts, 256);
+        let w = why(r.clear, self.verts, places::limits::MOST_VERTICES);
         if w == 0 {
             put_point(coords, self.verts * 3, r);
             let mut t = self;
@@ -119,11 +122,11 @@ impl Tally {
 
     // Kind 2.
     pub fn corner(self, r: Rec, corners: &mut [u32]) -> Tally
-        requires { ⌜ 2048 ≤ length (now corners) ⌝ }
-        ensures { λ t. ⌜ t ≡ cornerOf self r ⌝ }
+        requires { ⌜ mostCorners ≤ length (now corners) ⌝ }
+        ensures { λ t. ⌜ t ≡ cornerTaken self r ⌝ }
         ensures { λ _. ⌜ now (corners .exit) ≡ sets (now (corners .entry)) (self .corners) (added (cornerWhy self r) (r .a ∷ [])) ⌝ }
     {
-        let w = why(corner_fine(r), self.corners, 2048);
+        let w = why(corner_fine(r), self.corners, places::limits::MOST_CORNERS);
         if w == 0 {
             let at = self.corners;
             corners[at] = r.a as u32;
@@ -138,11 +141,11 @@ impl Tally {
 
     // Kind 3.
     pub fn face_end(self, r: Rec, ends: &mut [u32]) -> Tally
-        requires { ⌜ (256 ≤ length (now ends)) × (self .corners ≤ 2048) ⌝ }
-        ensures { λ t. ⌜ t ≡ faceEndOf self r ⌝ }
+        requires { ⌜ (mostFaces ≤ length (now ends)) × (self .corners ≤ mostCorners) ⌝ }
+        ensures { λ t. ⌜ t ≡ faceEndTaken self r ⌝ }
         ensures { λ _. ⌜ now (ends .exit) ≡ sets (now (ends .entry)) (self .faces) (added (faceEndWhy self r) (self .corners ∷ [])) ⌝ }
     {
-        let w = why(end_fine(r), self.faces, 256);
+        let w = why(end_fine(r), self.faces, places::limits::MOST_FACES);
         if w == 0 {
             let at = self.faces;
             ends[at] = self.corners as u32;
@@ -157,7 +160,7 @@ impl Tally {
 
     // Kind 4, before the cell's line.
     pub fn cell_end(self, r: Rec) -> Tally
-        ensures { λ t. ⌜ t ≡ cellEndOf self r ⌝ }
+        ensures { λ t. ⌜ t ≡ cellEndTaken self r ⌝ }
     {
         if !end_fine(r) {
             return self.refused(7);
@@ -172,11 +175,11 @@ impl Tally {
 
     // Kind 5.
     pub fn query(self, r: Rec, queries: &mut [f64]) -> Tally
-        requires { ⌜ 768 ≤ length (now queries) ⌝ }
-        ensures { λ t. ⌜ t ≡ queryOf self r ⌝ }
-        ensures { λ _. ⌜ now (queries .exit) ≡ sets (now (queries .entry)) (self .queries * 3) (added (queryWhy self r) (pointOf r)) ⌝ }
+        requires { ⌜ mostCoordinates ≤ length (now queries) ⌝ }
+        ensures { λ t. ⌜ t ≡ queryTaken self r ⌝ }
+        ensures { λ _. ⌜ now (queries .exit) ≡ sets (now (queries .entry)) (self .queries * 3) (added (queryWhy self r) (fieldsOf r)) ⌝ }
     {
-        let w = why(r.clear, self.queries, 256);
+        let w = why(r.clear, self.queries, places::limits::MOST_QUERIES);
         if w == 0 {
             put_point(queries, self.queries * 3, r);
             let mut t = self;
@@ -198,7 +201,8 @@ impl Tally {
     ) -> Tally
         requires { ⌜ Sized (now coords) (now corners) (now ends) (now queries) ⌝ }
         requires { ⌜ Fits self ⌝ }
-        ensures { λ t. ⌜ Tallied self r (now (coords .entry)) (now (corners .entry)) (now (ends .entry)) (now (queries .entry)) t (now (coords .exit)) (now (corners .exit)) (now (ends .exit)) (now (queries .exit)) ⌝ }
+        ensures { λ t. ⌜ Tallied self r (now (coords .entry)) (now (corners .entry)) (now (ends .entry)) (now (queries .entry)) t (now
+            (coords .exit)) (now (corners .exit)) (now (ends .exit)) (now (queries .exit)) ⌝ }
     {
         if self.refusal != 0 {
             return self;

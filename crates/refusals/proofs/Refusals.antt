@@ -14,33 +14,37 @@ use Rattle.places.specs.Loops.{pick, anyOf}
 use Rattle.places.specs.Stored.{inPairs}
 use Rattle.places.proofs.Lists.{each-slice}
 use Rattle.places.proofs.Stored.{length-threes, length-pairs}
-use Rattle.flat.specs.Points.{verticesOf, Inside}
+use Rattle.flat.specs.Points.{verticesOf}
+use Rattle.flat.specs.Steps.{Inside}
 use Rattle.cell.specs.Faces.{facesOf, rises}
-use Rattle.cell.specs.Refusals.{firstRow, pointsRefused, numberRefused, isEmpty, emptyRefused, refusalOf, Sound}
+use Rattle.cell.specs.Refusals.{firstRow, pointsRefused, numberRefused, isEmpty, emptyRefused, refusalOf}
+use Rattle.cell.specs.Steps.{Sound}
 use Rattle.cell.proofs.Faces.{face-at, rises-at, length-faces}
 use Rattle.cell.proofs.Refusals.{row-applies, row-passed, row-zero, no-row, or-none, any-none, Counted, counted, sound, asked-known}
-use Rattle.inside.specs.Inside.{faceEnd, MarkedInside}
+use Rattle.inside.specs.Inside.{faceEnd}
+use Rattle.inside.specs.Steps.{MarkedInside}
 use Rattle.planes.specs.Planes.{inFours}
 use Rattle.planes.proofs.Faces.{has-corner}
 use Rattle.planes.proofs.Stored.{length-fours}
-use Rattle.refusals.specs.Refusals.{orElse, partsRefused, listRefusal, pairsRefused, planeRefusal, facesRefusal, roomRefused, trianglesRefusal, strays, phedRefusal, queriesRefused, surveyRefusal, planesRefused, workRefused, worksRefusal, clipRefusal, planarRefusal, overlapRefusal}
+use Rattle.refusals.specs.Refusals.{firstRefusal, listRefusal, pairsRefused, planeRefusal, facesRefusal, roomRefused, trianglesRefusal, strays, phedRefusal, queriesRefused, surveyRefusal, planesRefused, workRefused, worksRefusal, clipRefusal, planarRefusal, overlapRefusal}
+use Rattle.refusals.specs.Steps.{partsRefused}
 
 -- ---- the first of two refusals
 module _ {why first : ℕ} (rest : ℕ) (found : why ≡ first) where
   -- one that was found decides
-  pub or-found : why ≢ 0 → why ≡ orElse first rest
-  unfolding orElse
+  pub or-found : why ≢ 0 → why ≡ firstRefusal first rest
+  unfolding firstRefusal
   or-found n = rw (← found, ne-eqb why 0 n)
 
   -- else the other does
-  pub or-other : {r : ℕ} → why ≡ 0 → r ≡ rest → r ≡ orElse first rest
-  unfolding orElse
+  pub or-other : {r : ℕ} → why ≡ 0 → r ≡ rest → r ≡ firstRefusal first rest
+  unfolding firstRefusal
   or-other z e = rw (← found, eq-eqb why 0 z) e
 
 module _ (first rest : ℕ) where
   -- where neither refuses
-  pub or-zero : orElse first rest ≡ 0 → (first ≡ 0) × (rest ≡ 0)
-  unfolding orElse
+  pub or-zero : firstRefusal first rest ≡ 0 → (first ≡ 0) × (rest ≡ 0)
+  unfolding firstRefusal
   or-zero e = go (eqb first 0) refl e
     where
       go : (b : Bool) → eqb first 0 ≡ b → pick b rest first ≡ 0 → (first ≡ 0) × (rest ≡ 0)
@@ -139,6 +143,30 @@ face-sound coords corners ends k s h =
     let r = rises-at 0 ends (length corners) k h (s .ordered) in
     rw (face-at corners ends k h) (each-slice (getD (0 ∷ ends) k 0) (getD ends k 0) corners (s .inside), omega (arith, length-slice (getD (0 ∷ ends) k 0) (getD ends k 0) corners (r .1), s .few-corners))
 
+-- what is known of the face k where its triangles are not refused
+pub record Cuttable (coords : List Float) (corners ends : List ℕ) (k room : ℕ) : Type 0 where
+  pub ordered : T (rises 0 ends (length corners))
+  pub there : k < length ends
+  pub inside : Inside (verticesOf coords) (getD (facesOf corners ends) k [])
+  pub few : length (getD (facesOf corners ends) k []) ≤ 2048
+  pub fits : length (getD (facesOf corners ends) k []) - 2 ≤ room
+
+pub cut-known : (coords : List Float) (corners ends : List ℕ) (k room : ℕ) → trianglesRefusal coords corners ends k room ≡ 0
+    → Cuttable coords corners ends k room
+unfolding trianglesRefusal roomRefused
+cut-known coords corners ends k room z =
+    let two = or-zero (refusalOf coords corners ends [] (k ∷ [])) _ z in
+    let s = sound coords corners ends [] (k ∷ []) (two .0) in
+    let there = asked-known coords corners ends [] (k ∷ []) (two .0) .holds 0 (omega arith) in
+    let face = face-sound coords corners ends k s there in
+    record {
+      ordered = s .ordered;
+      there = there;
+      inside = face .0;
+      few = face .1;
+      fits = ltb-false room _ (one-row 6 _ (omega arith) (two .1));
+    }
+
 -- a face of a cell that has no empty face
 pub face-solid : (corners ends : List ℕ) (k : ℕ) → emptyRefused corners ends ≡ false → k < length ends → 0 < length (getD (facesOf corners ends) k [])
 unfolding emptyRefused
@@ -228,22 +256,22 @@ planar-known subject clip first second e =
     }
 
 -- what is known where the overlap of two cells is not refused
-pub record Overlapping (coords : List Float) (corners ends : List ℕ) (others : List Float) (otherCorners otherEnds : List ℕ) (first second : List Float) : Type 0 where
+pub record Overlapping (coords : List Float) (corners ends : List ℕ) (otherCoords : List Float) (otherCorners otherEnds : List ℕ) (first second : List Float) : Type 0 where
   pub one : FacesKnown coords corners ends []
-  pub other : FacesKnown others otherCorners otherEnds []
+  pub other : FacesKnown otherCoords otherCorners otherEnds []
   pub first-few : length first ≤ 3072
   pub second-few : length second ≤ 3072
 
-pub overlap-known : (coords : List Float) (corners ends : List ℕ) (others : List Float) (otherCorners otherEnds : List ℕ) (first second : List Float)
-    → overlapRefusal coords corners ends others otherCorners otherEnds first second ≡ 0 → Overlapping coords corners ends others otherCorners otherEnds first second
+pub overlap-known : (coords : List Float) (corners ends : List ℕ) (otherCoords : List Float) (otherCorners otherEnds : List ℕ) (first second : List Float)
+    → overlapRefusal coords corners ends otherCoords otherCorners otherEnds first second ≡ 0 → Overlapping coords corners ends otherCoords otherCorners otherEnds first second
 unfolding overlapRefusal
-overlap-known coords corners ends others otherCorners otherEnds first second e =
+overlap-known coords corners ends otherCoords otherCorners otherEnds first second e =
     let lists = or-zero _ _ e in
     let cells = or-zero _ _ (lists .1) in
     let works = works-known first second (lists .0) in
     record {
       one = faces-known coords corners ends [] (cells .0);
-      other = faces-known others otherCorners otherEnds [] (cells .1);
+      other = faces-known otherCoords otherCorners otherEnds [] (cells .1);
       first-few = works .0;
       second-few = works .1;
     }

@@ -3,8 +3,12 @@ ghost use mathlib.Core.Path.{_≡_};
 ghost use mathlib.Core.List.{[], _∷_};
 ghost use Prim.Native.Nat.{_-_, _<_};
 ghost use lib.Dec.{ltb};
+ghost use Rattle.places.specs.Lent.{old};
 ghost use Rattle.places.specs.Loops.{anyOf};
-ghost use Rattle.refusals.specs.Refusals.{partsRefused, listRefusal, pairsRefused, planeRefusal, cellRefusal, facesRefusal, turnRefusal, strays, phedRefusal, queriesRefused, surveyRefusal, planesRefused, workRefused, worksRefusal, clipRefusal, planarRefusal, overlapRefusal};
+ghost use Rattle.refusals.specs.Refusals.{listRefusal, pairsRefused, planeRefusal, cellRefusal, containsRefusal, facesRefusal};
+ghost use Rattle.refusals.specs.Refusals.{trianglesRefusal, turnFacesRefusal, strays, phedRefusal, queriesRefused, surveyRefusal};
+ghost use Rattle.refusals.specs.Refusals.{planesRefused, workRefused, worksRefusal, clipRefusal, planarRefusal, overlapRefusal};
+ghost use Rattle.refusals.specs.Steps.{partsRefused};
 
 // Whether n numbers do not come in parts of a size, or make too many of them.
 fn parts_refused(n: usize, size: usize, most: usize) -> bool
@@ -19,36 +23,36 @@ fn parts_refused(n: usize, size: usize, most: usize) -> bool
 
 // Not in pairs, or over 512 points.
 fn pairs_refused(ps: &[f64]) -> bool
-    ensures { λ r. ⌜ r ≡ pairsRefused (now (ps .entry)) ⌝ }
+    ensures { λ r. ⌜ r ≡ pairsRefused (old ps) ⌝ }
 {
-    parts_refused(ps.len(), 2, 512)
+    parts_refused(ps.len(), 2, places::limits::MOST_PLANE_POINTS)
 }
 
 // Query values not in threes, or over 256 query points.
 fn queries_refused(queries: &[f64]) -> bool
-    ensures { λ r. ⌜ r ≡ queriesRefused (now (queries .entry)) ⌝ }
+    ensures { λ r. ⌜ r ≡ queriesRefused (old queries) ⌝ }
 {
-    parts_refused(queries.len(), 3, 256)
+    parts_refused(queries.len(), 3, places::limits::MOST_QUERIES)
 }
 
 // Not in fours, or over 256 planes.
 fn planes_refused(planes: &[f64]) -> bool
-    ensures { λ r. ⌜ r ≡ planesRefused (now (planes .entry)) ⌝ }
+    ensures { λ r. ⌜ r ≡ planesRefused (old planes) ⌝ }
 {
-    parts_refused(planes.len(), 4, 256)
+    parts_refused(planes.len(), 4, places::limits::MOST_PLANES)
 }
 
 // Over 3,072 numbers.
 fn work_refused(l: &[f64]) -> bool
-    ensures { λ r. ⌜ r ≡ workRefused (now (l .entry)) ⌝ }
+    ensures { λ r. ⌜ r ≡ workRefused (old l) ⌝ }
 {
-    l.len() > 3072
+    l.len() > places::limits::MOST_WORK_NUMBERS
 }
 
 // Why a list of points of space is refused.
 // Ruled out: a NaN found before a list that is not in threes; an empty list let through.
 pub fn list_refusal(coords: &[f64]) -> u8
-    ensures { λ r. ⌜ r ≡ listRefusal (now (coords .entry)) ⌝ }
+    ensures { λ r. ⌜ r ≡ listRefusal (old coords) ⌝ }
 {
     if cell::points_refused(coords) {
         return 1;
@@ -62,7 +66,7 @@ pub fn list_refusal(coords: &[f64]) -> u8
 // Why a list of points of the plane is refused.
 // Ruled out: an empty list refused; a limit of 512 numbers for 512 points.
 pub fn plane_refusal(ps: &[f64]) -> u8
-    ensures { λ r. ⌜ r ≡ planeRefusal (now (ps .entry)) ⌝ }
+    ensures { λ r. ⌜ r ≡ planeRefusal (old ps) ⌝ }
 {
     if pairs_refused(ps) {
         return 1;
@@ -76,15 +80,23 @@ pub fn plane_refusal(ps: &[f64]) -> u8
 // Why a cell of which nothing else is asked is refused.
 // Ruled out: every cell refused; an index judged before the ends.
 pub fn cell_refusal(coords: &[f64], corners: &[u32], ends: &[u32]) -> u8
-    ensures { λ r. ⌜ r ≡ cellRefusal (now (coords .entry)) (now (corners .entry)) (now (ends .entry)) ⌝ }
+    ensures { λ r. ⌜ r ≡ cellRefusal (old coords) (old corners) (old ends) ⌝ }
 {
     cell::refusal(coords, corners, ends, &coords[..0], &corners[..0])
+}
+
+// Why a cell with one query point is refused.
+// Ruled out: a query value above 2^40 taken; the point judged after the corners.
+pub fn contains_refusal(coords: &[f64], corners: &[u32], ends: &[u32], p: [f64; 3]) -> u8
+    ensures { λ r. ⌜ r ≡ containsRefusal (old coords) (old corners) (old ends) p ⌝ }
+{
+    cell::refusal(coords, corners, ends, &p, &corners[..0])
 }
 
 // Why a cell is refused whose faces are all to have corners; `asked` are the numbers of faces that are asked for.
 // Ruled out: an empty face found before a corner that is out of range; only the faces that are asked for tested for corners.
 pub fn faces_refusal(coords: &[f64], corners: &[u32], ends: &[u32], asked: &[u32]) -> u8
-    ensures { λ r. ⌜ r ≡ facesRefusal (now (coords .entry)) (now (corners .entry)) (now (ends .entry)) (now (asked .entry)) ⌝ }
+    ensures { λ r. ⌜ r ≡ facesRefusal (old coords) (old corners) (old ends) (old asked) ⌝ }
 {
     let why = cell::refusal(coords, corners, ends, &coords[..0], asked);
     if why != 0 {
@@ -98,8 +110,8 @@ pub fn faces_refusal(coords: &[f64], corners: &[u32], ends: &[u32], asked: &[u32
 
 // Why turning the backward faces is refused; faces of 0 corners pass.
 // Ruled out: 5 for an empty face; a side that occurs once found before a corner that is out of range.
-pub fn turn_refusal(coords: &[f64], corners: &[u32], ends: &[u32]) -> u8
-    ensures { λ r. ⌜ r ≡ turnRefusal (now (coords .entry)) (now (corners .entry)) (now (ends .entry)) ⌝ }
+pub fn turn_faces_refusal(coords: &[f64], corners: &[u32], ends: &[u32]) -> u8
+    ensures { λ r. ⌜ r ≡ turnFacesRefusal (old coords) (old corners) (old ends) ⌝ }
 {
     let why = cell_refusal(coords, corners, ends);
     if why != 0 {
@@ -110,23 +122,46 @@ pub fn turn_refusal(coords: &[f64], corners: &[u32], ends: &[u32]) -> u8
 
 // Whether `room` places are too few for the triangles of a face of n corners.
 // Ruled out: a place asked for a face of two corners; one place too few let through.
-pub fn room_refused(n: usize, room: usize) -> bool
+fn room_refused(n: usize, room: usize) -> bool
     ensures { λ r. ⌜ r ≡ ltb room (n - 2) ⌝ }
 {
     if n < 2 { false } else { room < n - 2 }
 }
 
+// Why the triangles of a face are refused, where there is room for so many; room is asked for even if the cut will stop short.
+// Ruled out: 6 for a face that is not there; no room asked for a face that gives fewer.
+pub fn triangles_refusal(
+    coords: &[f64],
+    corners: &[u32],
+    ends: &[u32],
+    face: u32,
+    room: usize,
+) -> u8
+    ensures { λ r. ⌜ r ≡ trianglesRefusal (old coords) (old corners) (old ends) face room ⌝ }
+{
+    let asked = [face];
+    let why = cell::refusal(coords, corners, ends, &coords[..0], &asked);
+    if why != 0 {
+        return why;
+    }
+    let part = cell::face_by_number(corners, ends, face as usize);
+    if room_refused(part.len(), room) {
+        return 6;
+    }
+    0
+}
+
 // Whether an entry that is not the mark is not below n. Every entry is looked at, without an exit.
 fn strays_in(n: usize, cs: &[u32]) -> bool
     requires { ⌜ n < 4294967296 ⌝ }
-    ensures { λ r. ⌜ r ≡ anyOf (strays n) (now (cs .entry)) ⌝ }
+    ensures { λ r. ⌜ r ≡ anyOf (strays n) (old cs) ⌝ }
 {
     let beyond = n as u32;
     let m = cs.len();
     let mut any = false;
     let mut i = 0;
     while i < m {
-        any = cell::either(any, strays(beyond, cell::stored(cs, i)));
+        any = cell::one_or_both(any, strays(beyond, cell::stored(cs, i)));
         i += 1;
     }
     any
@@ -141,12 +176,12 @@ fn strays(n: u32, c: u32) -> bool
 // Why point_in_phed refuses.
 // Ruled out: a mark refused as an index; a list of 2,304 entries refused.
 pub fn phed_refusal(coords: &[f64], cs: &[u32], p: [f64; 3]) -> u8
-    ensures { λ r. ⌜ r ≡ phedRefusal (now (coords .entry)) (now (cs .entry)) p ⌝ }
+    ensures { λ r. ⌜ r ≡ phedRefusal (old coords) (old cs) p ⌝ }
 {
     if cell::points_refused(coords) {
         return 1;
     }
-    if cs.len() > 2304 {
+    if cs.len() > places::limits::MOST_MARKED_CORNERS {
         return 1;
     }
     if cell::number_refused(coords) {
@@ -164,7 +199,7 @@ pub fn phed_refusal(coords: &[f64], cs: &[u32], p: [f64; 3]) -> u8
 // Why a cell or its query points are refused.
 // Ruled out: query values that are not looked at; too many query points found only after the cell's numbers.
 pub fn survey_refusal(coords: &[f64], corners: &[u32], ends: &[u32], queries: &[f64]) -> u8
-    ensures { λ r. ⌜ r ≡ surveyRefusal (now (coords .entry)) (now (corners .entry)) (now (ends .entry)) (now (queries .entry)) ⌝ }
+    ensures { λ r. ⌜ r ≡ surveyRefusal (old coords) (old corners) (old ends) (old queries) ⌝ }
 {
     if queries_refused(queries) {
         return 1;
@@ -174,7 +209,7 @@ pub fn survey_refusal(coords: &[f64], corners: &[u32], ends: &[u32], queries: &[
 
 // Why the two work lists are refused.
 fn works_refusal(first: &[f64], second: &[f64]) -> u8
-    ensures { λ r. ⌜ r ≡ worksRefusal (now (first .entry)) (now (second .entry)) ⌝ }
+    ensures { λ r. ⌜ r ≡ worksRefusal (old first) (old second) ⌝ }
 {
     if work_refused(first) {
         return 1;
@@ -196,7 +231,7 @@ pub fn clip_refusal(
     first: &[f64],
     second: &[f64],
 ) -> u8
-    ensures { λ r. ⌜ r ≡ clipRefusal (now (coords .entry)) (now (corners .entry)) (now (ends .entry)) face (now (planes .entry)) (now (first .entry)) (now (second .entry)) ⌝ }
+    ensures { λ r. ⌜ r ≡ clipRefusal (old coords) (old corners) (old ends) face (old planes) (old first) (old second) ⌝ }
 {
     if planes_refused(planes) {
         return 1;
@@ -212,7 +247,7 @@ pub fn clip_refusal(
 // Why planar clipping is refused, room apart.
 // Ruled out: the clip list's size judged before the subject's numbers; an empty clip list refused.
 pub fn planar_refusal(subject: &[f64], clip: &[f64], first: &[f64], second: &[f64]) -> u8
-    ensures { λ r. ⌜ r ≡ planarRefusal (now (subject .entry)) (now (clip .entry)) (now (first .entry)) (now (second .entry)) ⌝ }
+    ensures { λ r. ⌜ r ≡ planarRefusal (old subject) (old clip) (old first) (old second) ⌝ }
 {
     let size = works_refusal(first, second);
     if size != 0 {
@@ -231,13 +266,14 @@ pub fn overlap_refusal(
     coords: &[f64],
     corners: &[u32],
     ends: &[u32],
-    others: &[f64],
-    other_corners: &[u32],
-    other_ends: &[u32],
+    coords2: &[f64],
+    corners2: &[u32],
+    ends2: &[u32],
     first: &[f64],
     second: &[f64],
 ) -> u8
-    ensures { λ r. ⌜ r ≡ overlapRefusal (now (coords .entry)) (now (corners .entry)) (now (ends .entry)) (now (others .entry)) (now («other_corners» .entry)) (now («other_ends» .entry)) (now (first .entry)) (now (second .entry)) ⌝ }
+    ensures { λ r. ⌜ r ≡ overlapRefusal (old coords) (old corners) (old ends) (old coords2) (old corners2) (old ends2) (old first)
+        (old second) ⌝ }
 {
     let size = works_refusal(first, second);
     if size != 0 {
@@ -247,5 +283,5 @@ pub fn overlap_refusal(
     if why != 0 {
         return why;
     }
-    faces_refusal(others, other_corners, other_ends, &corners[..0])
+    faces_refusal(coords2, corners2, ends2, &corners[..0])
 }

@@ -1,11 +1,11 @@
-// Replays the stored answers of the Rust: reads them from standard input, asks `geometry` and `floats` the same, and
+// Replays the stored answers of the Rust: reads them from standard input, asks the same through the C names, and
 // prints a line a case. tests/vectors has the list to read and how it was made. The list comes in parts of 65,536 bytes,
 // each of whole lines: empty lines fill a part up.
 ghost use Prim.Native.Nat.{_≤_};
 ghost use mathlib.Core.Path.{_≡_};
 ghost use lib.ListN.{length};
 use std::num::wrapping_add_u64;
-use vectors::Verdict;
+use stored_answers::Verdict;
 
 // What has been replayed so far.
 struct Totals {
@@ -17,70 +17,24 @@ struct Totals {
 // Writes ` same`, or ` different`, how many questions and of how many.
 fn print_verdict(v: Verdict) {
     if v.different == 0 {
-        io::write_all(1, &[b' ', b's', b'a', b'm', b'e', b'\n']);
+        io::write_all(1, b" same\n");
         return;
     }
-    io::write_all(
-        1,
-        &[
-            b' ',
-            b'd',
-            b'i',
-            b'f',
-            b'f',
-            b'e',
-            b'r',
-            b'e',
-            b'n',
-            b't',
-            b' ',
-        ],
-    );
+    io::write_all(1, b" different ");
     io::print_decimal(1, v.different);
-    io::write_all(1, &[b' ', b'o', b'f', b' ']);
+    io::write_all(1, b" of ");
     io::print_decimal(1, v.asked);
-    io::write_all(1, &[b'\n']);
+    io::write_all(1, b"\n");
 }
 
 // Writes the counts.
 fn print_totals(t: Totals) {
     io::print_decimal(1, t.cases);
-    io::write_all(1, &[b' ', b'c', b'a', b's', b'e', b's', b',', b' ']);
+    io::write_all(1, b" cases, ");
     io::print_decimal(1, t.asked);
-    io::write_all(
-        1,
-        &[
-            b' ',
-            b'q',
-            b'u',
-            b'e',
-            b's',
-            b't',
-            b'i',
-            b'o',
-            b'n',
-            b's',
-            b',',
-            b' ',
-        ],
-    );
+    io::write_all(1, b" questions, ");
     io::print_decimal(1, t.different);
-    io::write_all(
-        1,
-        &[
-            b' ',
-            b'd',
-            b'i',
-            b'f',
-            b'f',
-            b'e',
-            b'r',
-            b'e',
-            b'n',
-            b't',
-            b'\n',
-        ],
-    );
+    io::write_all(1, b" different\n");
 }
 
 // Whether a line is a case: not empty, and no remark.
@@ -96,8 +50,8 @@ fn replay(t: Totals, line: &[u8]) -> Totals {
     if !is_case(line) {
         return t;
     }
-    let end = vectors::name_end(line);
-    let v = vectors::judge(&line[end..]);
+    let end = stored_answers::name_end(line);
+    let v = stored_answers::judge(&line[end..]);
     io::write_all(1, &line[0..end]);
     print_verdict(v);
     Totals {
@@ -115,7 +69,7 @@ fn replay_all(start: Totals, text: &[u8]) -> Totals
     let mut t = start;
     let mut at = 0;
     while at < n {
-        let end = vectors::line_end(text, at);
+        let end = stored_answers::line_end(text, at);
         t = replay(t, &text[at..end]);
         at = end + 1;
     }

@@ -51,9 +51,9 @@ lineOf h =
     (surveyLine (h .tally .number) (h .tally .verts) (h .tally .faces) (surveyAnswer (h .coords) (h .corners) (h .ends) (h .queries)))
     (refusedLine (h .tally .number) (h .tally .refusal))
 
--- a record's turn: any record of kind 4 ends the cell, and the next one starts anew
-unfoldable pub turnOf : Held → Rec → Held
-turnOf h r = pick (eqb (r .kind) 4) (freshOf (h .tally .number + 1)) (grownOf h r)
+-- a record is taken: any record of kind 4 ends the cell, and the next one starts anew
+unfoldable pub recordTaken : Held → Rec → Held
+recordTaken h r = pick (eqb (r .kind) 4) (freshOf (h .tally .number + 1)) (grownOf h r)
 
 -- and what it prints
 unfoldable pub saysOf : Held → Rec → List ℕ
@@ -62,7 +62,7 @@ saysOf h r = pick (eqb (r .kind) 4) (lineOf (grownOf h r)) []
 -- the cell after the first k records of s
 unfoldable pub after : ℕ → Held → List ℕ → Held
 after zero h s = h
-after (suc k) h s = turnOf (after k h s) (recordOf s (k * 32))
+after (suc k) h s = recordTaken (after k h s) (recordOf s (k * 32))
 
 -- the lines of the first k records of s
 unfoldable pub linesOf : ℕ → Held → List ℕ → List ℕ

@@ -4,19 +4,19 @@ ghost use Prim.Native.Nat.{_+_, _*_, _/_, _^_, _≤_, _<_};
 ghost use lib.ListN.{length};
 ghost use Rattle.lines.specs.Text.{Put};
 ghost use Rattle.records.specs.Tally.{Sized, Fits};
-ghost use Rattle.report.specs.Report.{heldOf, turnOf, saysOf, after, linesOf, lentOf, storedOf, storedAfter};
+ghost use Rattle.report.specs.Report.{heldOf, saysOf, after, linesOf, lentOf, storedOf, storedAfter, recordTaken};
 use crate::line::put_line;
 use records::bytes::Rec;
 use records::bytes::read_record;
 use records::tally::Tally;
 
 // After a record: the tally, and how much is written.
-pub struct Turn {
+pub struct Taken {
     pub tally: Tally,
     pub made: usize,
 }
 
-// A record's turn. Any record of kind 4 ends the cell, good or bad: its line, and a new tally.
+// One record is taken. Any record of kind 4 ends the cell, good or bad: its line, and a new tally.
 pub fn take_record(
     t: Tally,
     r: Rec,
@@ -26,11 +26,11 @@ pub fn take_record(
     queries: &mut [f64],
     out: &mut [u8],
     at: usize,
-) -> Turn
+) -> Taken
     requires { ⌜ Sized (now coords) (now corners) (now ends) (now queries) ⌝ }
     requires { ⌜ Fits t ⌝ }
     requires { ⌜ (t .number + 1 < 2 ^ 64) × (at + 256 ≤ length (now out)) ⌝ }
-    ensures { λ d. ⌜ heldOf (d .tally) (now (coords .exit)) (now (corners .exit)) (now (ends .exit)) (now (queries .exit)) ≡ turnOf (heldOf t (now (coords .entry)) (now (corners .entry)) (now (ends .entry)) (now (queries .entry))) r ⌝ }
+    ensures { λ d. ⌜ heldOf (d .tally) (now (coords .exit)) (now (corners .exit)) (now (ends .exit)) (now (queries .exit)) ≡ recordTaken (heldOf t (now (coords .entry)) (now (corners .entry)) (now (ends .entry)) (now (queries .entry))) r ⌝ }
     ensures { λ _. ⌜ lentOf (now (coords .exit)) (now (corners .exit)) (now (ends .exit)) (now (queries .exit)) ≡ storedOf t (lentOf (now (coords .entry)) (now (corners .entry)) (now (ends .entry)) (now (queries .entry))) r ⌝ }
     ensures { λ d. ⌜ Put (now (out .entry)) at (saysOf (heldOf t (now (coords .entry)) (now (corners .entry)) (now (ends .entry)) (now (queries .entry))) r) (now (out .exit)) (d .made) ⌝ }
     ensures { λ d. ⌜ Fits (d .tally) × (d .tally .number ≤ t .number + 1) × (d .made ≤ at + 256) ⌝ }
@@ -38,12 +38,12 @@ pub fn take_record(
     let u = t.take(r, coords, corners, ends, queries);
     if r.kind == 4 {
         let made = put_line(u, coords, corners, ends, queries, out, at);
-        return Turn {
+        return Taken {
             tally: Tally::new(t.number + 1),
             made,
         };
     }
-    Turn { tally: u, made: at }
+    Taken { tally: u, made: at }
 }
 
 // All whole records of a block; what is left of it is shorter than a record.
@@ -55,7 +55,7 @@ pub fn take_block(
     ends: &mut [u32],
     queries: &mut [f64],
     out: &mut [u8],
-) -> Turn
+) -> Taken
     requires { ⌜ Sized (now coords) (now corners) (now ends) (now queries) ⌝ }
     requires { ⌜ Fits start ⌝ }
     requires { ⌜ (start .number + length (now s) < 2 ^ 64) × (256 * (length (now s) / 32) ≤ length (now out)) ⌝ }
@@ -75,5 +75,5 @@ pub fn take_block(
         made = d.made;
         k += 1;
     }
-    Turn { tally: t, made }
+    Taken { tally: t, made }
 }

@@ -19,7 +19,7 @@ fn found(t: Tally, coords: &[f64], corners: &[u32], ends: &[u32], queries: &[f64
     let c = t.corners;
     let f = t.faces;
     let q = t.queries * 3;
-    geometry::survey_cell(&coords[0..v], &corners[0..c], &ends[0..f], &queries[0..q])
+    geometry::survey(&coords[0..v], &corners[0..c], &ends[0..f], &queries[0..q])
 }
 
 // A record's refusal decides; where there is none, the survey does.

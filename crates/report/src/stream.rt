@@ -5,6 +5,7 @@ ghost use lib.ListN.{length, take};
 ghost use Rattle.lines.specs.Text.{Put};
 ghost use Rattle.records.specs.Tally.{Sized, Fits};
 ghost use Rattle.report.specs.Report.{heldOf, after, linesOf, tailOf, movedOf, lentOf, storedAfter};
+ghost use Rattle.report.specs.Split.{Feeds, Finishes};
 use crate::block::take_block;
 use records::tally::Tally;
 
@@ -28,7 +29,8 @@ pub struct Fed {
     pub made: usize,
 }
 
-// The first `total` bytes of the block are taken.
+// The first `total` bytes of the block are taken. Whichever of them waited and whichever came, a run
+// that had come to this cell goes on as `Feeds` says, so that no split of the input changes the report.
 pub fn feed(
     t: Tally,
     total: usize,
@@ -47,6 +49,7 @@ pub fn feed(
     ensures { λ d. ⌜ Put (now (out .entry)) 0 (linesOf (total / 32) (heldOf t (now (coords .entry)) (now (corners .entry)) (now (ends .entry)) (now (queries .entry))) (take total (now (block .entry)))) (now (out .exit)) (d .made) ⌝ }
     ensures { λ d. ⌜ (d .have ≡ total - total / 32 * 32) × (now (block .exit) ≡ movedOf (now (block .entry)) (total / 32 * 32) (total - total / 32 * 32)) ⌝ }
     ensures { λ d. ⌜ Fits (d .tally) × (d .tally .number ≤ t .number + total / 32) × (d .made ≤ length (now (out .entry))) ⌝ }
+    ensures { λ d. ⌜ Feeds (heldOf t (now (coords .entry)) (now (corners .entry)) (now (ends .entry)) (now (queries .entry))) (take total (now (block .entry))) (heldOf (d .tally) (now (coords .exit)) (now (corners .exit)) (now (ends .exit)) (now (queries .exit))) (take (d .have) (now (block .exit))) (take (d .made) (now (out .exit))) ⌝ }
 {
     let d = take_block(t, &block[..total], coords, corners, ends, queries, out);
     let used = total / 32 * 32;
@@ -57,11 +60,13 @@ pub fn feed(
     Fed { tally, have, made }
 }
 
-// At the end of the input, with `have` bytes that are no whole record.
+// At the end of the input, with `have` bytes that are no whole record. With these last lines the run
+// has printed the report of all its bytes (`Finishes`).
 pub fn finish(t: Tally, have: usize, out: &mut [u8]) -> usize
     requires { ⌜ 15 ≤ length (now out) ⌝ }
     ensures { λ r. ⌜ Put (now (out .entry)) 0 (tailOf (t .begun) have) (now (out .exit)) r ⌝ }
     ensures { λ r. ⌜ r ≤ length (now (out .entry)) ⌝ }
+    ensures { λ r. ⌜ Finishes t have (take r (now (out .exit))) ⌝ }
 {
     if t.begun {
         return lines::put_tail(out, 0);

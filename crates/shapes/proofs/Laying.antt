@@ -6,7 +6,7 @@ use native.Mathlib.Omega.{arith}
 use lib.ListN.{length, getD, set}
 use Rattle.places.specs.Stored.{inThrees}
 use Rattle.places.proofs.Stored.{length-threes}
-use Rattle.places.proofs.Turns.{Folding, fold-start, fold-turn, fold-end}
+use Rattle.places.proofs.Folding.{Folding, fold-start, fold-next, fold-end}
 use Rattle.places.proofs.Lists.{fill, look, same, fill-copy}
 
 -- ---- a loop that lays down the points ps: with those from i on, the list has them all
@@ -18,8 +18,8 @@ module _ {A : Type 0} {ps : List (List A)} where
   pub lay-start : {l : List A} → length l ≡ length ps * 3 → Laying ps 0 l
   lay-start {l} h = record { long = h; so = fold-start (fill-copy [] ps (inThrees l) (omega (arith, length-threes l))) }
 
-  pub lay-turn : {i : ℕ} {l l′ : List A} → Laying ps i l → i < length ps → length l′ ≡ length l → inThrees l′ ≡ set (inThrees l) i (getD ps i []) → Laying ps (i + 1) l′
-  lay-turn p h g e = record { long = g ∙ p .long; so = fold-turn (p .so) h e }
+  pub lay-next : {i : ℕ} {l l′ : List A} → Laying ps i l → i < length ps → length l′ ≡ length l → inThrees l′ ≡ set (inThrees l) i (getD ps i []) → Laying ps (i + 1) l′
+  lay-next p h g e = record { long = g ∙ p .long; so = fold-next (p .so) h e }
 
   pub lay-end : {i : ℕ} {l : List A} → Laying ps i l → length ps ≤ i → inThrees l ≡ ps
   lay-end p h = fold-end (p .so) h

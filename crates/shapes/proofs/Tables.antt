@@ -11,14 +11,16 @@ use Rattle.places.specs.Stored.{inThrees}
 use Rattle.places.proofs.Stored.{length-threes}
 use Rattle.floats.specs.F64.{zero64}
 use Rattle.exact.specs.Sides.{closedOf}
-use Rattle.flat.specs.Points.{Point, Inside, verticesOf}
-use Rattle.cell.specs.Refusals.{Sound, firstRow, wild, pointsRefused, sizeRefused, numberRefused, endsRefused, indexRefused, refusalOf}
+use Rattle.flat.specs.Points.{Point, verticesOf}
+use Rattle.flat.specs.Steps.{Inside}
+use Rattle.cell.specs.Refusals.{firstRow, outOfRange, pointsRefused, sizeRefused, numberRefused, endsRefused, indexRefused, refusalOf}
+use Rattle.cell.specs.Steps.{Sound}
 use Rattle.cell.proofs.Refusals.{sound, any-none, all-below}
 use Rattle.shapes.specs.Tables.{tet4Faces, wedge6Tet, wedge6TriFaces, wedge6QuadFaces, hex8Faces, hex8Tet}
 
 -- 'unfolding tested' opens every definition on the way to these tests
 unfoldable pub tested : Unit {0}
-unfolding ofBits neg le anyOf inThrees firstRow wild pointsRefused sizeRefused numberRefused endsRefused indexRefused refusalOf
+unfolding ofBits neg le anyOf inThrees firstRow outOfRange pointsRefused sizeRefused numberRefused endsRefused indexRefused refusalOf
 tested = tt
 
 -- a number of the table is not below n

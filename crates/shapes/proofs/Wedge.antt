@@ -22,24 +22,25 @@ pub differs : {a b c d : Bool} → a ≡ c → b ≡ d → not (Bool·beq a b) �
 differs {a} {b} {c} {d} e f = rw (e, f) (differ-is c d)
 
 -- a face that is crossed turns the answer round, before the others or after them
-turn : (crossed b rest : Bool) → differ (pick crossed (not b) b) rest ≡ differ b (differ (pick crossed true false) rest)
-turn true true true = refl
-turn true true false = refl
-turn true false rest = refl
-turn false b rest = refl
+cross-first : (crossed b rest : Bool) → differ (pick crossed (not b) b) rest ≡ differ b (differ (pick crossed true false) rest)
+cross-first true true true = refl
+cross-first true true false = refl
+cross-first true false rest = refl
+cross-first false b rest = refl
 
 module _ (vs : List Point) (p : Point) where
-  turned : (fs : List (List ℕ)) (b : Bool) → foldList (crossFace vs p) fs b ≡ differ b (foldList (crossFace vs p) fs false)
+  cross-rest : (fs : List (List ℕ)) (b : Bool) → foldList (crossFace vs p) fs b ≡ differ b (foldList (crossFace vs p) fs false)
   unfolding foldList crossFace
-  turned [] true = refl
-  turned [] false = refl
-  turned (f ∷ fs) b =
+  cross-rest [] true = refl
+  cross-rest [] false = refl
+  cross-rest (f ∷ fs) b =
       let crossed = rayCrosses vs p f in
-      rw (turned fs (pick crossed (not b) b), turned fs (pick crossed true false)) (turn crossed b (foldList (crossFace vs p) fs false))
+      rw (cross-rest fs (pick crossed (not b) b), cross-rest fs (pick crossed true false))
+      (cross-first crossed b (foldList (crossFace vs p) fs false))
 
   pub both-counts : (fs gs : List (List ℕ)) → containsOf vs p (fs ++ gs) ≡ differ (containsOf vs p fs) (containsOf vs p gs)
   unfolding containsOf
-  both-counts fs gs = fold-append (crossFace vs p) fs gs false ∙ turned gs (foldList (crossFace vs p) fs false)
+  both-counts fs gs = fold-append (crossFace vs p) fs gs false ∙ cross-rest gs (foldList (crossFace vs p) fs false)
 
   -- a wedge contains a point when the crossings of its five faces are odd, as any cell does
   pub wedge-as-cell : wedgeContainsOf p vs ≡ containsOf vs p (wedge6QuadFaces ++ wedge6TriFaces)

@@ -4,7 +4,8 @@ ghost use mathlib.Core.List.{[]};
 ghost use Prim.Native.Nat.{ℕ, _*_, _<_};
 ghost use lib.ListN.{length, getD, set};
 ghost use Rattle.places.specs.Lists.{Each};
-ghost use Rattle.flat.specs.Points.{verticesOf, vertexOf, Inside};
+ghost use Rattle.flat.specs.Points.{verticesOf, vertexOf};
+ghost use Rattle.flat.specs.Steps.{Inside};
 ghost use Rattle.shapes.specs.Shapes.{tetVolumeOf, tetBy, volumeBy, wedgeVolumeOf, hexVolumeOf, tetContainsOf, wedgeContainsOf, hexContainsOf};
 
 // The tetrahedra that fill a wedge, and those that fill a hexahedron: four corner numbers each.

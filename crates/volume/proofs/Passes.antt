@@ -14,8 +14,8 @@ use Rattle.flat.specs.Points.{Point, centroidOf}
 use Rattle.cut.specs.Cut.{cutOf}
 use Rattle.cut.proofs.Facts.{cut-room}
 use Rattle.volume.specs.Triangles.{trianglesOf, isShort, shortOf}
-use Rattle.volume.specs.Volume.{addTriple, sumAbout, v6Of, measuredOf, addMoment, noMoments, momentsOf}
-use Rattle.volume.specs.Passes.{addFace, addFaceMoments}
+use Rattle.volume.specs.Volume.{addTriple, sumAbout, v6Of, addMoment, noMoments, momentsOf}
+use Rattle.volume.specs.Steps.{measuredOf, addFace, addFaceMoments}
 use Rattle.volume.specs.declared.Measured.{Measured}
 use Rattle.volume.specs.declared.Moments.{Moments}
 

@@ -1,3 +1,3 @@
 pub mod Triangles
 pub mod Volume
-pub mod Passes
+pub mod Steps

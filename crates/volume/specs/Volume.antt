@@ -1,14 +1,13 @@
 -- v6 sums triple products about the vertex centroid; volume is |v6| / 6; the geometric centroid. Each step is one operation of f64.
 use Prim.Native.Nat.{ℕ}
 use mathlib.Core.List.{List}
-use lib.ListN.{length, getD}
+use lib.ListN.{getD}
 use lib.Ieee.{Float, binary64, ofBits, lt}
 use Rattle.places.specs.Loops.{pick, foldList}
 use Rattle.floats.specs.F64.{_+f_, _-f_, _*f_, _/f_, zero64, four64, six64}
 use Rattle.floats.specs.Pick.{magnitudeOf}
 use Rattle.flat.specs.Points.{Point, at, pointBy, vertexOf, plusOf, minusOf, overOf, centroidOf}
-use Rattle.volume.specs.Triangles.{trianglesOf, shortOf}
-use Rattle.volume.specs.declared.Measured.{Measured}
+use Rattle.volume.specs.Triangles.{trianglesOf}
 use Rattle.volume.specs.declared.Moments.{Moments}
 
 -- triple_product: a · (b × c)
@@ -40,10 +39,6 @@ v6Of vs fs = sumAbout vs (centroidOf 3 vs) (trianglesOf vs fs)
 -- volume: |v6| / 6
 unfoldable pub volumeOf : List Point → List (List ℕ) → Float
 volumeOf vs fs = magnitudeOf (v6Of vs fs) /f six64
-
--- what one pass over the faces tells: v6, how many triangles there are, and how many faces are short
-unfoldable pub measuredOf : List Point → List (List ℕ) → Measured
-measuredOf vs fs = record { v6 = v6Of vs fs; triangles = length (trianglesOf vs fs); short = shortOf vs fs }
 
 -- ---- geometric_centroid
 -- the sums with those of the triangle t added: its triple product, and its corners' sum times that

@@ -5,14 +5,16 @@ ghost use mathlib.Core.Bool.{_&&_};
 ghost use lib.Dec.{leb, ltb};
 ghost use mathlib.Core.List.{[]};
 ghost use lib.ListN.{length};
+ghost use Rattle.places.specs.Limits.{mostFaces, mostCorners};
 ghost use Rattle.places.specs.Lists.{Each};
 ghost use Rattle.places.specs.Loops.{pick, foldList};
-ghost use Rattle.flat.specs.Points.{verticesOf, Inside, centroidOf};
+ghost use Rattle.flat.specs.Points.{verticesOf, centroidOf};
+ghost use Rattle.flat.specs.Steps.{Inside};
 ghost use Rattle.cut.specs.Cut.{cutOf};
 ghost use Rattle.cell.specs.Faces.{facesOf};
-ghost use Rattle.cell.specs.Refusals.{Sound};
-ghost use Rattle.volume.specs.Volume.{tripleOf, cornerFrom, tripleAbout, addTriple, volumeOf, measuredOf, addMoment, momentsOf, balanceOf, geometricCentroidOf};
-ghost use Rattle.volume.specs.Passes.{addFace, addFaceMoments};
+ghost use Rattle.cell.specs.Steps.{Sound};
+ghost use Rattle.volume.specs.Volume.{tripleOf, cornerFrom, tripleAbout, addTriple, volumeOf, addMoment, momentsOf, balanceOf, geometricCentroidOf};
+ghost use Rattle.volume.specs.Steps.{measuredOf, addFace, addFaceMoments};
 
 // What one pass over the faces tells: six times the signed volume, how many triangles there are, and how many faces of three or more corners gave too few.
 pub struct Measured {
@@ -38,7 +40,7 @@ pub fn triple_product(a: [f64; 3], b: [f64; 3], c: [f64; 3]) -> f64
 }
 
 // Corner k of a triangle, taken from the reference point.
-pub fn corner_from(coords: &[f64], t: [u32; 3], refp: [f64; 3], k: usize) -> [f64; 3]
+fn corner_from(coords: &[f64], t: [u32; 3], refp: [f64; 3], k: usize) -> [f64; 3]
     requires { ⌜ Inside (verticesOf (now coords)) t ⌝ }
     requires { ⌜ k < 3 ⌝ }
     ensures { λ r. ⌜ r ≡ cornerFrom (verticesOf (now (coords .entry))) refp t k ⌝ }
@@ -47,7 +49,7 @@ pub fn corner_from(coords: &[f64], t: [u32; 3], refp: [f64; 3], k: usize) -> [f6
 }
 
 // The triple product of a triangle about the reference point.
-pub fn triple(coords: &[f64], t: [u32; 3], refp: [f64; 3]) -> f64
+fn triple(coords: &[f64], t: [u32; 3], refp: [f64; 3]) -> f64
     requires { ⌜ Inside (verticesOf (now coords)) t ⌝ }
     ensures { λ r. ⌜ r ≡ tripleAbout (verticesOf (now (coords .entry))) refp t ⌝ }
 {
@@ -59,7 +61,7 @@ pub fn triple(coords: &[f64], t: [u32; 3], refp: [f64; 3]) -> f64
 }
 
 // The sum v with the triple products of a list of triangles added.
-pub fn add_triangles(coords: &[f64], tris: &[[u32; 3]], refp: [f64; 3], v: f64) -> f64
+fn add_triangles(coords: &[f64], tris: &[[u32; 3]], refp: [f64; 3], v: f64) -> f64
     requires { ⌜ Each [] (Inside (verticesOf (now coords))) (now tris) ⌝ }
     ensures { λ r. ⌜ r ≡ foldList (addTriple (verticesOf (now (coords .entry))) refp) (now (tris .entry)) v ⌝ }
 {
@@ -76,7 +78,7 @@ pub fn add_triangles(coords: &[f64], tris: &[[u32; 3]], refp: [f64; 3], v: f64) 
 
 // 1 for a face of n corners, three or more, that gave fewer than n - 2 triangles, else 0.
 fn short_share(n: usize, triangles: usize) -> usize
-    requires { ⌜ triangles ≤ 2048 ⌝ }
+    requires { ⌜ triangles ≤ mostCorners ⌝ }
     ensures { λ r. ⌜ (r ≡ pick (leb 3 n && ltb (triangles + 2) n) 1 0) × (r ≤ 1) ⌝ }
 {
     if n < 3 {
@@ -94,8 +96,8 @@ fn add_face(
     out: &mut [[u32; 3]],
 ) -> Measured
     requires { ⌜ Inside (verticesOf (now coords)) (now face) ⌝ }
-    requires { ⌜ (length (now face) ≤ 2048) × (length (now face) - 2 ≤ length (now out)) ⌝ }
-    requires { ⌜ (m .triangles ≤ 2048) × (m .short ≤ 256) ⌝ }
+    requires { ⌜ (length (now face) ≤ mostCorners) × (length (now face) - 2 ≤ length (now out)) ⌝ }
+    requires { ⌜ (m .triangles ≤ mostCorners) × (m .short ≤ mostFaces) ⌝ }
     ensures { λ r. ⌜ r ≡ addFace (verticesOf (now (coords .entry))) refp (now (face .entry)) m ⌝ }
 {
     let c = cut::cut(coords, face, out);
@@ -142,7 +144,7 @@ pub fn measure(coords: &[f64], corners: &[u32], ends: &[u32]) -> Measured
         let mut out = [[0u32; 3]; 256];
         return measure_in(coords, corners, ends, &mut out);
     }
-    let mut out = [[0u32; 3]; 2048];
+    let mut out = [[0u32; 3]; places::limits::MOST_CORNERS];
     measure_in(coords, corners, ends, &mut out)
 }
 
@@ -156,7 +158,7 @@ pub fn volume(coords: &[f64], corners: &[u32], ends: &[u32]) -> f64
 }
 
 // The sums with those of one triangle added.
-pub fn add_moment(coords: &[f64], t: [u32; 3], refp: [f64; 3], m: Moments) -> Moments
+fn add_moment(coords: &[f64], t: [u32; 3], refp: [f64; 3], m: Moments) -> Moments
     requires { ⌜ Inside (verticesOf (now coords)) t ⌝ }
     ensures { λ r. ⌜ r ≡ addMoment (verticesOf (now (coords .entry))) refp t m ⌝ }
 {
@@ -176,7 +178,7 @@ pub fn add_moment(coords: &[f64], t: [u32; 3], refp: [f64; 3], m: Moments) -> Mo
 }
 
 // With those of a list of triangles.
-pub fn add_moments(coords: &[f64], tris: &[[u32; 3]], refp: [f64; 3], m: Moments) -> Moments
+fn add_moments(coords: &[f64], tris: &[[u32; 3]], refp: [f64; 3], m: Moments) -> Moments
     requires { ⌜ Each [] (Inside (verticesOf (now coords))) (now tris) ⌝ }
     ensures { λ r. ⌜ r ≡ foldList (addMoment (verticesOf (now (coords .entry))) refp) (now (tris .entry)) m ⌝ }
 {
@@ -200,7 +202,7 @@ fn add_face_moments(
     out: &mut [[u32; 3]],
 ) -> Moments
     requires { ⌜ Inside (verticesOf (now coords)) (now face) ⌝ }
-    requires { ⌜ (length (now face) ≤ 2048) × (length (now face) - 2 ≤ length (now out)) ⌝ }
+    requires { ⌜ (length (now face) ≤ mostCorners) × (length (now face) - 2 ≤ length (now out)) ⌝ }
     ensures { λ r. ⌜ r ≡ addFaceMoments (verticesOf (now (coords .entry))) refp (now (face .entry)) m ⌝ }
 {
     let c = cut::cut(coords, face, out);
@@ -245,7 +247,7 @@ fn sum_moments(coords: &[f64], corners: &[u32], ends: &[u32], refp: [f64; 3]) ->
         let mut out = [[0u32; 3]; 256];
         return moments_in(coords, corners, ends, refp, &mut out);
     }
-    let mut out = [[0u32; 3]; 2048];
+    let mut out = [[0u32; 3]; places::limits::MOST_CORNERS];
     moments_in(coords, corners, ends, refp, &mut out)
 }
 

@@ -1,3 +1,3 @@
 pub mod Table
 pub mod Kept
-pub mod Turned
+pub mod TurnFaces

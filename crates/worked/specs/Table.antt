@@ -5,15 +5,15 @@ use mathlib.Core.List.{List, [], _∷_}
 use Prim.Native.Nat.{ℕ}
 use lib.IntN.{pos, negsuc}
 use lib.Ieee.{Float, binary64, ofBits, ofInt}
-use Rattle.floats.specs.F64.{_-f_, _/f_, zero64, one64, two64}
+use Rattle.floats.specs.F64.{zero64, one64, two64}
 use Rattle.flat.specs.Points.{Point, verticesOf}
 use Rattle.cut.specs.Cut.{cutOf}
 use Rattle.cell.specs.Faces.{facesOf}
 use Rattle.inside.specs.Inside.{faceEnd, containsOf, phedContainsOf}
 use Rattle.planes.specs.declared.Plane.{Plane}
 use Rattle.planes.specs.Planes.{distanceOf}
-use Rattle.work.specs.Work.{Outcome, outline}
-use Rattle.trim.specs.Trim.{within, crossPlane}
+use Rattle.work_lists.specs.WorkLists.{Outcome, outline}
+use Rattle.clip_step.specs.ClipStep.{within, crossingAt, crossPlane}
 use Rattle.clip.specs.Clip.{clipFaceOf}
 use Rattle.planar.specs.Planar.{clipConvexOf, intersectionAreaOf}
 use Rattle.demand3.specs.Cube.{cube, hexCorners, hexEnds}
@@ -58,7 +58,7 @@ answerOf (containing p) = contained (containsOf (verticesOf cube) p (facesOf hex
 answerOf (containingMarked p) = contained (phedContainsOf (verticesOf cube) p hexMarked)
 answerOf (clipping plane eps ps) = leaves (clipFaceOf 8 eps (plane ∷ []) ps)
 answerOf (crossing plane eps a b) =
-    crosses (within plane eps a) (within plane eps b) (distanceOf plane a /f (distanceOf plane a -f distanceOf plane b)) (crossPlane plane a b)
+    crosses (within plane eps a) (within plane eps b) (crossingAt (distanceOf plane a) (distanceOf plane b)) (crossPlane plane a b)
 answerOf (overlapping subject clip) = area (intersectionAreaOf (clipConvexOf 8 subject clip))
 
 -- of every row, what the definitions give and what the row states
@@ -149,7 +149,29 @@ table =
 abbrev pub Claim : Type 0
 Claim = given table ≡ stated table
 
--- ---- rows beside document 01's: the report's query point, and the same points asked of `point_in_phed`
+-- ---- rows beside document 01's: the report's query point, the same points asked of `point_in_phed`, and further crossings that are exact in f64
+-- 1/4, 3/8, 5/2, −2, 5, 6 and 8
+abbrev quarter : Float
+quarter = ofBits binary64 0x3fd0_0000_0000_0000
+
+abbrev threeEighths : Float
+threeEighths = ofBits binary64 0x3fd8_0000_0000_0000
+
+abbrev fiveHalves : Float
+fiveHalves = ofBits binary64 0x4004_0000_0000_0000
+
+abbrev m2 : Float
+m2 = ofInt binary64 (negsuc 1)
+
+abbrev n5 : Float
+n5 = ofInt binary64 (pos 5)
+
+abbrev n6 : Float
+n6 = ofInt binary64 (pos 6)
+
+abbrev n8 : Float
+n8 = ofInt binary64 (pos 8)
+
 abbrev pub beside : List Row
 beside =
     row (containing (half ∷ half ∷ half ∷ [])) (contained true)
@@ -157,4 +179,12 @@ beside =
     ∷ row (containingMarked (one64 ∷ half ∷ half ∷ [])) (contained false)
     ∷ row (containingMarked (half ∷ one64 ∷ half ∷ [])) (contained false)
     ∷ row (containingMarked (half ∷ half ∷ half ∷ [])) (contained true)
+    -- from (−1,0,0) out to (3,8,0), plane x = 0, eps 0: t = −1 / −4, point (0,2,0)
+    ∷ row (crossing (upTo zero64) zero64 (level m1 zero64) (level n3 n8)) (crosses true false quarter (level zero64 two64))
+    -- from (1,1,0) in to (−1,3,0): t = 1 / 2, point (0,2,0)
+    ∷ row (crossing (upTo zero64) zero64 (level one64 one64) (level m1 n3)) (crosses false true half (level zero64 two64))
+    -- from (−2,1,0) out to (6,5,0), plane x = 1: t = −3 / −8, point (1,5/2,0)
+    ∷ row (crossing (upTo one64) zero64 (level m2 one64) (level n6 n5)) (crosses true false threeEighths (level one64 fiveHalves))
+    -- from (2,0,0) in to (1,4,0), plane x = 0, eps 1: t = 2 / 1, point (0,8,0), past the side's end
+    ∷ row (crossing (upTo zero64) one64 (level two64 zero64) (level one64 n4)) (crosses false true two64 (level zero64 n8))
     ∷ []

@@ -3,7 +3,7 @@ use Prim.Native.Nat.{_-_, _<_}
 use native.Mathlib.Omega.{arith}
 use lib.ListN.{length}
 use Rattle.cell.specs.Refusals.{endsRefused}
-use Rattle.cell.proofs.Faces.{Falling, falls-start, falls-turn, falls-end}
+use Rattle.cell.proofs.Faces.{Falling, falls-start, falls-next, falls-end}
 use borrow.Author.Needs.{needs}
 use Rattle.cell.proofs.ends_refused.Statement.{statement}
 use Rattle.cell.proofs.ends_refused.Tie as tie
@@ -20,7 +20,7 @@ ends-refused-spec =
     (λ c κs. search needs)
     (λ c. search needs)
     (λ c. search needs)
-    (λ c. (c .before .before .before .loop .inv .0, c .before .stored .ensures .1, falls-turn (c .before .before .before .loop .inv .2) (search needs) (c .before .stored .ensures .0) (c .either .ensures)))
+    (λ c. (c .before .before .before .loop .inv .0, c .before .stored .ensures .1, falls-next (c .before .before .before .loop .inv .2) (search needs) (c .before .stored .ensures .0) (c .one-or-both .ensures)))
     (λ c. omega (arith, c .before .loop .inv .1))
     (λ c κs. search needs)
-    (λ c. falls-end (c .before .before .loop .inv .2) (search needs) (c .either2 .ensures)))
+    (λ c. falls-end (c .before .before .loop .inv .2) (search needs) (c .one-or-both2 .ensures)))

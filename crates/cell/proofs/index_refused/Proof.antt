@@ -1,7 +1,7 @@
 use mathlib.Core.Path.{_≡_, refl}
 use Prim.Native.Nat.{_-_}
 use lib.ListN.{length}
-use Rattle.places.proofs.Loops.{Taking, take-start, take-turn, take-end, orTest, any-taken}
+use Rattle.places.proofs.Loops.{Taking, take-start, take-next, take-end, orTest, any-taken}
 use Rattle.cell.specs.Refusals.{notBelow, indexRefused}
 use borrow.Author.Needs.{needs}
 use Rattle.cell.proofs.index_refused.Statement.{statement}
@@ -20,5 +20,5 @@ index-refused-spec =
     (λ c κs. search needs)
     (λ c. search needs)
     (λ c. search needs)
-    (λ c. (c .before .before .before .loop .inv .0, take-turn 0 (c .before .before .before .loop .inv .1) (search needs) (cc)))
+    (λ c. (c .before .before .before .loop .inv .0, take-next 0 (c .before .before .before .loop .inv .1) (search needs) (cc)))
     (λ c. take-end (c .before .loop .inv .1) (search needs)))

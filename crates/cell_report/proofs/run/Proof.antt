@@ -1,41 +1,150 @@
+-- `cell_report::run` meets its contract: every read starts as a run has it, and the reads that are left bound the cell's number.
 use mathlib.Core.Path.{_≡_, refl, sym, _∙_}
-use Prim.Native.Nat.{_+_, _*_, _≤_, _<_}
+use mathlib.Core.List.{List}
+use Prim.Native.Nat.{ℕ, _+_, _*_, _≤_, _<_}
 use native.Mathlib.Omega.{arith}
-use lib.ListN.{length}
+use lib.ListN.{length, take}
 use lib.Seq.{length-take-le}
+use lib.Ieee.{Float}
 use borrow.Author.Tests.{ltb-true}
+use Rattle.records.specs.declared.tally.Tally.{Tally}
 use Rattle.records.specs.Tally.{Fits}
-use Rattle.report.proofs.Turns.{new-fits}
+use Rattle.report.specs.Report.{heldOf}
+use Rattle.report.specs.Split.{Running}
+use Rattle.report.proofs.Taken.{new-fits}
+use Rattle.report.proofs.Split.{new-runs, runs-on}
+use borrow.Author.Needs.{needs}
 use Rattle.cell_report.proofs.run.Statement.{statement}
 use Rattle.cell_report.proofs.run.Tie as tie
+
+-- between two reads
+record Between (block₀ : List ℕ) (coords₀ : List Float) (corners₀ ends₀ : List ℕ) (queries₀ : List Float) (out₀ : List ℕ)
+    (block : List ℕ) (coords : List Float) (corners ends : List ℕ) (queries : List Float) (out : List ℕ)
+    (t : Tally) (have reads : ℕ) : Type 0 where
+  for-block : length block ≡ length block₀
+  for-coords : length coords ≡ length coords₀
+  for-corners : length corners ≡ length corners₀
+  for-ends : length ends ≡ length ends₀
+  for-queries : length queries ≡ length queries₀
+  for-out : length out ≡ length out₀
+  fits : Fits t
+  number : t .number + 2048 * reads ≤ 2305843009213693953
+  small : have < 32
+  running : Running (heldOf t coords corners ends queries) (take have block)
+
+abbrev Inv-loop : tie.InvT-loop
+Inv-loop block₀ coords₀ corners₀ ends₀ queries₀ out₀ _ _ _ _ _ block coords corners ends queries out t have more ended reads =
+    Between block₀ coords₀ corners₀ ends₀ queries₀ out₀ block coords corners ends queries out t have reads
+
+abbrev μ-loop : tie.MeasureT-loop
+μ-loop _ _ _ _ _ _ _ _ _ _ _ block coords corners ends queries out t have more ended reads = reads
+
+loop-holds : tie.Need-loop-holds Inv-loop μ-loop
+loop-holds c =
+    let start : tie.Start Inv-loop μ-loop = search in
+    let args = start .args in
+    let new = new-fits (c .new .ensures) in
+    record {
+      for-block = refl;
+      for-coords = refl;
+      for-corners = refl;
+      for-ends = refl;
+      for-queries = refl;
+      for-out = refl;
+      fits = new .0;
+      number = omega (arith, new .1);
+      small = omega arith;
+      running = new-runs (args .coords .now) (args .corners .now) (args .ends .now) (args .queries .now) (c .new .ensures);
+    }
+
+read-once-requires : tie.Need-read-once-requires Inv-loop μ-loop
+read-once-requires c κs =
+    let start : tie.Start Inv-loop μ-loop = search in
+    let pre = start .pre in
+    let record { before = _; loop = loop } : tie.At-loop Inv-loop μ-loop = search in
+    let i = loop .inv in (
+      record {
+        for-coords = omega (arith, i .for-coords, pre .0 .for-coords);
+        for-corners = omega (arith, i .for-corners, pre .0 .for-corners);
+        for-ends = omega (arith, i .for-ends, pre .0 .for-ends);
+        for-queries = omega (arith, i .for-queries, pre .0 .for-queries);
+      },
+      (i .fits, ((omega (arith, i .number), i .small, i .for-block ∙ pre .1 .0, omega (arith, i .for-out, pre .1 .1)), i .running)),
+    )
+
+sub-reads : tie.Need-sub-reads Inv-loop μ-loop
+sub-reads c =
+    let record { before = _; loop = loop } : tie.At-loop Inv-loop μ-loop = search in
+    let test : tie.Then1 Inv-loop μ-loop = search in
+    omega (arith, ltb-true 0 (loop .reads) (test .if1 .taken))
+
+loop-less : tie.Need-loop-less Inv-loop μ-loop
+loop-less c =
+    let record { before = _; loop = loop } : tie.At-loop Inv-loop μ-loop = search in
+    let test : tie.Then1 Inv-loop μ-loop = search in
+    omega (arith, ltb-true 0 (loop .reads) (test .if1 .taken))
+
+loop-again : tie.Need-loop-again Inv-loop μ-loop
+loop-again c =
+    let record { before = _; loop = loop } : tie.At-loop Inv-loop μ-loop = search in
+    let test : tie.Then1 Inv-loop μ-loop = search in
+    let record { before = _; read-once = read-once } : tie.After-read-once Inv-loop μ-loop = search in
+    let i = loop .inv in
+    let went = read-once .ensures .0 in
+    let kept = read-once .kept .1 .1 in
+    record {
+      for-block = kept .0 ∙ i .for-block;
+      for-coords = kept .1 .0 ∙ i .for-coords;
+      for-corners = kept .1 .1 .0 ∙ i .for-corners;
+      for-ends = kept .1 .1 .1 .0 ∙ i .for-ends;
+      for-queries = kept .1 .1 .1 .1 .0 ∙ i .for-queries;
+      for-out = kept .1 .1 .1 .1 .1 .0 ∙ i .for-out;
+      fits = went .0;
+      number = omega (arith, went .1, i .number, ltb-true 0 (loop .reads) (test .if1 .taken));
+      small = went .2;
+      running = runs-on (i .running) (read-once .ensures .1);
+    }
+
+finish-requires : tie.Need-finish-requires Inv-loop μ-loop
+finish-requires c κs =
+    let start : tie.Start Inv-loop μ-loop = search in
+    let record { before = _; loop = loop } : tie.At-loop Inv-loop μ-loop = search in
+    omega (arith, loop .inv .for-out, start .pre .1 .1)
+
+slice-reshare-prefix-write-all : tie.Need-slice-reshare-prefix-write-all Inv-loop μ-loop
+slice-reshare-prefix-write-all c =
+    let record { before = _; finish = finish } : tie.After-finish Inv-loop μ-loop = search in
+    omega (arith, finish .ensures .1 .0, finish .kept .1 .1 .0)
+
+slice-aggregate-write-all : tie.Need-slice-aggregate-write-all Inv-loop μ-loop
+slice-aggregate-write-all c =
+    let record { before = _; finish = finish } : tie.After-finish Inv-loop μ-loop = search in
+    sym (length-take-le (finish .result) _ (omega (arith, finish .ensures .1 .0, finish .kept .1 .1 .0)))
+
+same-length-6 : tie.Need-same-length-6 Inv-loop μ-loop
+same-length-6 c =
+    let record { before = _; finish = finish } : tie.After-finish Inv-loop μ-loop = search in
+    let record { before = _; loop = loop } : tie.At-loop Inv-loop μ-loop = search in
+    finish .kept .1 .1 .0 ∙ loop .inv .for-out
 
 pub run-spec : {M : Type 1} → statement M
 run-spec =
     tie.close
     (tie.spec
-    (λ block₀ coords₀ corners₀ ends₀ queries₀ out₀ t₀ have₀ more₀ ended₀ turns₀ block coords corners ends queries out t have more ended turns. (length block ≡ length block₀) × (length coords ≡ length coords₀) × (length corners ≡ length corners₀) × (length ends ≡ length ends₀) × (length queries ≡ length queries₀) × (length out ≡ length out₀) × Fits t × (t .number + 2048 * turns ≤ 2305843009213693953) × (have < 32))
-    (λ block₀ coords₀ corners₀ ends₀ queries₀ out₀ t₀ have₀ more₀ ended₀ turns₀ block coords corners ends queries out t have more ended turns. turns)
+    Inv-loop
+    μ-loop
     (λ c κs. tt)
-    (λ c. let e = new-fits (c .new .ensures) in (refl, refl, refl, refl, refl, refl, e .0, omega (arith, e .1), omega arith))
-    (λ c κs. let i = c .before .before .before .before .before .before .before .before .loop .inv in let p = c .before .before .before .before .before .before .before .before .before .before .before .before .before .before .before .before .pre in (record { for-coords = omega (arith, i .1, p .0 .for-coords); for-corners = omega (arith, i .2, p .0 .for-corners); for-ends = omega (arith, i .3, p .0 .for-ends); for-queries = omega (arith, i .4, p .0 .for-queries) }, (i .6, (omega (arith, i .7), i .8, i .0 ∙ p .1 .0, omega (arith, i .5, p .1 .1)))))
-    (λ c. omega (arith, ltb-true 0 (c .before .before .before .before .before .before .before .before .before .before .before .before .before .before .before .before .before .before .before .before .before .before .loop .turns) (c .before .before .before .before .before .before .before .before .before .before .before .before .before .before .before .before .before .before .before .before .if1 .taken)))
-    (λ c. omega (arith, ltb-true 0 (c .before .before .before .before .before .before .before .before .before .before .before .before .before .before .before .before .before .before .before .before .before .before .loop .turns) (c .before .before .before .before .before .before .before .before .before .before .before .before .before .before .before .before .before .before .before .before .if1 .taken)))
-    (λ c. let i = c .before .before .before .before .before .before .before .before .before .before .before .before .before .before .before .before .before .before .before .before .before .before .loop .inv in let w = c .before .before .before .before .before .before .before .before .before .before .before .before .before .turn in (w .kept .1 .1 .0 ∙ i .0, w .kept .1 .1 .1 .0 ∙ i .1, w .kept .1 .1 .1 .1 .0 ∙ i .2, w .kept .1 .1 .1 .1 .1 .0 ∙ i .3, w .kept .1 .1 .1 .1 .1 .1 .0 ∙ i .4, w .kept .1 .1 .1 .1 .1 .1 .1 .0 ∙ i .5, w .ensures .0, omega (arith, w .ensures .1, i .7, ltb-true 0 (c .before .before .before .before .before .before .before .before .before .before .before .before .before .before .before .before .before .before .before .before .before .before .loop .turns) (c .before .before .before .before .before .before .before .before .before .before .before .before .before .before .before .before .before .before .before .before .if1 .taken)), w .ensures .2))
-    (λ c κs. omega (arith, c .before .before .before .loop .inv .5, c .before .before .before .before .before .before .before .before .before .before .before .pre .1 .1))
-    (λ c. let f = c .before .before .finish in omega (arith, f .ensures .1, f .kept .1 .1 .0))
-    (λ c. let f = c .before .before .before .finish in sym (length-take-le (f .result) _ (omega (arith, f .ensures .1, f .kept .1 .1 .0))))
+    loop-holds
+    read-once-requires
+    sub-reads
+    loop-less
+    loop-again
+    finish-requires
+    slice-reshare-prefix-write-all
+    slice-aggregate-write-all
     (λ c κs. tt)
-    (λ c. c .before .before .before .before .before .before .before .before .loop .inv .0)
-    (λ c. c .before .before .before .before .before .before .before .before .loop .inv .1)
-    (λ c. c .before .before .before .before .before .before .before .before .loop .inv .2)
-    (λ c. c .before .before .before .before .before .before .before .before .loop .inv .3)
-    (λ c. c .before .before .before .before .before .before .before .before .loop .inv .4)
-    (λ c. c .before .before .before .before .finish .kept .1 .1 .0 ∙ c .before .before .before .before .before .before .before .before .loop .inv .5)
+    (λ c. search needs) (λ c. search needs) (λ c. search needs) (λ c. search needs) (λ c. search needs)
+    same-length-6
     (λ c. tt)
-    (λ c. c .before .before .loop .inv .0)
-    (λ c. c .before .before .loop .inv .1)
-    (λ c. c .before .before .loop .inv .2)
-    (λ c. c .before .before .loop .inv .3)
-    (λ c. c .before .before .loop .inv .4)
-    (λ c. c .before .before .loop .inv .5)
+    (λ c. search needs) (λ c. search needs) (λ c. search needs) (λ c. search needs) (λ c. search needs) (λ c. search needs)
     (λ c. tt))

@@ -4,7 +4,7 @@ use lib.ListN.{length}
 use native.Mathlib.Omega.{arith}
 use Rattle.places.proofs.Stored.{length-threes}
 use Rattle.flat.proofs.Corners.{length-corners}
-use Rattle.work.proofs.Alternation.{shorter-fits, clipped-full, clipped-run}
+use Rattle.work_lists.proofs.Alternation.{shorter-fits, clipped-full, clipped-run}
 use borrow.Author.Needs.{needs}
 use Rattle.clip.proofs.clip_face.Statement.{statement}
 use Rattle.clip.proofs.clip_face.Tie as tie

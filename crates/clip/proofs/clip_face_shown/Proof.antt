@@ -1,5 +1,5 @@
-use Rattle.work.proofs.Endings.{reads-threes}
-use Rattle.work.proofs.Clearing.{shown-fits, settled}
+use Rattle.work_lists.proofs.Endings.{reads-threes}
+use Rattle.work_lists.proofs.Clearing.{shown-fits, settled}
 use borrow.Author.Needs.{needs}
 use Rattle.clip.proofs.clip_face_shown.Statement.{statement}
 use Rattle.clip.proofs.clip_face_shown.Tie as tie

@@ -5,7 +5,7 @@ use mathlib.Core.List.{[]}
 use Prim.Native.Nat.{_-_}
 use lib.ListN.{length}
 use Rattle.places.specs.Loops.{countOf}
-use Rattle.places.proofs.Loops.{Counting, count-start, count-turn, count-end}
+use Rattle.places.proofs.Loops.{Counting, count-start, count-next, count-end}
 use Rattle.places.proofs.Stored.{length-threes}
 use Rattle.flat.specs.Points.{verticesOf}
 use Rattle.clip.specs.Clip.{beyond}
@@ -25,5 +25,5 @@ count-out-spec =
     (λ c. search needs)
     (λ c. search needs)
     (λ c. search needs)
-    (λ c. (c .before .before .before .before .loop .inv .0, count-turn [] (c .before .before .before .before .loop .inv .1) (search needs) (rw (← (c .before .before .vertex .ensures), ← (c .before .distance .ensures)) (⊎-elim (λ w. rw (w .0 .taken) (w .1)) (λ w. rw (w .0 .left, add-zero) (w .1)) (c .if1 .came)))))
+    (λ c. (c .before .before .before .before .loop .inv .0, count-next [] (c .before .before .before .before .loop .inv .1) (search needs) (rw (← (c .before .before .vertex .ensures), ← (c .before .distance .ensures)) (⊎-elim (λ w. rw (w .0 .taken) (w .1)) (λ w. rw (w .0 .left, add-zero) (w .1)) (c .if1 .came)))))
     (λ c. count-end (c .before .loop .inv .1) (search needs)))

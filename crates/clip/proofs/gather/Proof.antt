@@ -5,7 +5,7 @@ use native.Mathlib.Omega.{arith}
 use lib.ListN.{length, drop}
 use Rattle.flat.specs.Points.{verticesOf, cornersOf}
 use Rattle.flat.proofs.Corners.{length-corners}
-use Rattle.work.proofs.Filling.{Rest, rest-start, rest-length, lay-turn, lay-end}
+use Rattle.work_lists.proofs.Filling.{Rest, rest-start, rest-length, lay-next, lay-end}
 use borrow.Author.Needs.{needs}
 use Rattle.clip.proofs.gather.Statement.{statement}
 use Rattle.clip.proofs.gather.Tie as tie
@@ -21,6 +21,6 @@ gather-spec =
     (λ c κs. omega (arith, rest-length (c .before .before .before .loop .inv .2)))
     (λ c. search needs)
     (λ c. search needs)
-    (λ c. (c .before .before .before .before .before .before .loop .inv .0, c .before .before .put-vertex .kept .0 ∙ c .before .before .before .before .before .before .loop .inv .1, lay-turn [] (c .before .before .before .before .before .before .loop .inv .2) (rw length-corners (search needs)) (c .before .before .before .vertex-at .ensures) (c .before .before .put-vertex .ensures)))
+    (λ c. (c .before .before .before .before .before .before .loop .inv .0, c .before .before .put-vertex .kept .0 ∙ c .before .before .before .before .before .before .loop .inv .1, lay-next [] (c .before .before .before .before .before .before .loop .inv .2) (rw length-corners (search needs)) (c .before .before .before .vertex-at .ensures) (c .before .before .put-vertex .ensures .0)))
     (λ c. c .before .loop .inv .1)
     (λ c. rw (← length-corners (verticesOf (c .before .before .before .before .before .args .coords .now)) (c .before .before .before .before .before .args .face .now)) (lay-end (c .before .loop .inv .2) (rw length-corners (search needs)) (rw length-corners (search needs)))))

@@ -3,10 +3,11 @@ use mathlib.Core.Bool.{false}
 use Prim.Native.Nat.{_-_}
 use lib.ListN.{length, take}
 use Rattle.flat.specs.Points.{verticesOf}
-use Rattle.planes.specs.Planes.{inFours, noPlane}
+use Rattle.planes.specs.Planes.{inFours}
+use Rattle.planes.specs.Steps.{noPlane}
 use Rattle.planes.proofs.Stored.{length-fours}
-use Rattle.work.specs.Work.{runOf}
-use Rattle.work.proofs.Alternation.{Alternating, alternate-start, alternate-gone, alternate-full, alternate-kept, alternate-made, alternate-none, alternate-end}
+use Rattle.work_lists.specs.WorkLists.{runOf}
+use Rattle.work_lists.proofs.Alternation.{Alternating, alternate-start, alternate-gone, alternate-full, alternate-kept, alternate-made, alternate-none, alternate-end}
 use Rattle.clip.specs.Clip.{planeChange}
 use borrow.Author.Needs.{needs}
 use Rattle.clip.proofs.run.Statement.{statement}

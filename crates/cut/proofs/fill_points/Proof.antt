@@ -3,7 +3,7 @@ use mathlib.Core.Path.{_≡_, refl}
 use Prim.Native.Nat.{_-_}
 use lib.ListN.{length, length-set}
 use Rattle.flat.specs.Flat.{pointOf, pointsOf}
-use Rattle.places.proofs.Turns.{Folding, fold-start, fold-turn, fold-end}
+use Rattle.places.proofs.Folding.{Folding, fold-start, fold-next, fold-end}
 use Rattle.places.proofs.Lists.{fill, look, fill-map}
 use borrow.Author.Needs.{needs}
 use Rattle.cut.proofs.fill_points.Statement.{statement}
@@ -22,6 +22,6 @@ fill-points-spec =
     (λ c. search needs)
     (λ c. search needs)
     (λ c. search needs)
-    (λ c. (c .before .before .loop .inv .0, simp length-set (c .before .before .loop .inv .1), fold-turn (c .before .before .loop .inv .2) (search needs) (cc)))
+    (λ c. (c .before .before .loop .inv .0, simp length-set (c .before .before .loop .inv .1), fold-next (c .before .before .loop .inv .2) (search needs) (cc)))
     (λ c. search needs)
     (λ c. fold-end (c .before .loop .inv .2) (search needs)))

@@ -1,10 +1,10 @@
-use Rattle.places.proofs.Turns.{Folding, fold-turn, fold-end}
+use Rattle.places.proofs.Folding.{Folding, fold-next, fold-end}
 use mathlib.Core.Path.{_≡_, refl}
 use Prim.Native.Nat.{_-_, _+_}
 use lib.ListN.{length, length-set}
 use native.Mathlib.Omega.{arith}
 use mathlib.Core.List.{[]}
-use Rattle.places.specs.Lists.{removed}
+use Rattle.places.specs.Steps.{removed}
 use Rattle.places.proofs.Lists.{shift, shift-removed}
 use borrow.Author.Needs.{needs}
 use Rattle.cut.proofs.remove_point.Statement.{statement}
@@ -25,6 +25,6 @@ remove-point-spec =
     (λ c. search needs)
     (λ c. search needs)
     (λ c. search needs)
-    (λ c. (c .before .before .loop .inv .0, simp length-set (c .before .before .loop .inv .1), fold-turn (c .before .before .loop .inv .2) (search needs) refl))
+    (λ c. (c .before .before .loop .inv .0, simp length-set (c .before .before .loop .inv .1), fold-next (c .before .before .loop .inv .2) (search needs) refl))
     (λ c. search needs)
     (λ c. fold-end (c .before .loop .inv .2) (search needs)))

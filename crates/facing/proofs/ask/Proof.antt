@@ -6,7 +6,7 @@ use borrow.Author.Needs.{needs}
 use lib.ListN.{length, getD}
 use Rattle.cell.specs.Faces.{facesOf}
 use Rattle.cell.proofs.Faces.{length-faces}
-use Rattle.skin.proofs.Numbers.{few}
+use Rattle.side_table.proofs.Numbers.{few}
 use Rattle.facing.proofs.Spread.{spread-first}
 use Rattle.facing.proofs.Rounds.{OnFace, on-face, from-known, to-known, here-marked, meet-ready}
 use Rattle.facing.proofs.Rounds.{Round, round-start, round-below, round-more, round-end}

@@ -1,7 +1,7 @@
 -- `facing::choose` meets its contract: each vertex that occurs has a number below k, and whichever table is taken has k rows and k columns.
 use mathlib.Core.Path.{refl}
-use Rattle.skin.proofs.Corners.{each-below}
-use Rattle.skin.proofs.Numbers.{nobody, few}
+use Rattle.side_table.proofs.Corners.{each-below}
+use Rattle.side_table.proofs.Numbers.{nobody, few}
 use borrow.Author.Needs.{needs}
 use Rattle.facing.proofs.choose.Statement.{statement}
 use Rattle.facing.proofs.choose.Tie as tie

@@ -9,8 +9,8 @@ use Rattle.places.specs.Ring.{sides}
 use Rattle.places.proofs.Rings.{length-sides}
 use Rattle.places.proofs.Loops.{Asking, ask-start, ask-yes, ask-no, ask-end}
 use Rattle.cell.specs.Faces.{facesOf}
-use Rattle.skin.specs.Numbers.{entryOf}
-use Rattle.skin.proofs.Numbers.{few}
+use Rattle.side_table.specs.Numbers.{entryOf}
+use Rattle.side_table.proofs.Numbers.{few}
 use Rattle.facing.specs.Steps.{clash, clashFace}
 use Rattle.facing.proofs.Rounds.{OnFace, on-face, from-known, to-known, here, here-marked}
 use Rattle.facing.proofs.clash_face.Statement.{statement}

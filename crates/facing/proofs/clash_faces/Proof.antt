@@ -8,7 +8,7 @@ use lib.ListN.{length}
 use Rattle.places.proofs.Loops.{Asking, ask-start, ask-yes, ask-no, ask-end}
 use Rattle.cell.specs.Faces.{facesOf}
 use Rattle.cell.proofs.Faces.{length-faces}
-use Rattle.skin.specs.Numbers.{entryOf}
+use Rattle.side_table.specs.Numbers.{entryOf}
 use Rattle.facing.specs.Steps.{clashFace, clashFaces}
 use Rattle.facing.proofs.clash_faces.Statement.{statement}
 use Rattle.facing.proofs.clash_faces.Tie as tie

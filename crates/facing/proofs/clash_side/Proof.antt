@@ -11,13 +11,13 @@ returns c =
     let args = c .before .before .before .before .args in
     rw (eq-eqb (args .a) (args .b) (c .if1 .taken))
 
-turned-up-requires : tie.Need-turned-up-requires
-turned-up-requires c κs =
+mark-runs-up-requires : tie.Need-mark-runs-up-requires
+mark-runs-up-requires c κs =
     let start : tie.Start = search in
     rw (c .first-mark .ensures) (start .pre .1 .1 .first (c .before .if1 .left))
 
-turned-up-requires-2 : tie.Need-turned-up-requires-2
-turned-up-requires-2 c κs =
+mark-runs-up-requires-2 : tie.Need-mark-runs-up-requires-2
+mark-runs-up-requires-2 c κs =
     let if1 = c .before .before .before .if1 in
     let start : tie.Start = search in
     rw (c .second-mark .ensures) (start .pre .1 .1 .second (if1 .left))
@@ -25,7 +25,7 @@ turned-up-requires-2 c κs =
 returns-2 : tie.Need-returns-2
 unfolding clash
 returns-2 c =
-    let turned-up = c .before .before .turned-up in
+    let mark-runs-up = c .before .before .mark-runs-up in
     let first-mark = c .before .before .before .first-mark in
     let if1 = c .before .before .before .before .if1 in
     let start : tie.Start = search in
@@ -34,8 +34,8 @@ returns-2 c =
       ne-eqb (args .a) (args .b) (if1 .left),
       ← first-mark .ensures,
       ← c .before .second-mark .ensures,
-      ← turned-up .ensures,
-      ← c .turned-up2 .ensures,
+      ← mark-runs-up .ensures,
+      ← c .mark-runs-up2 .ensures,
     )
 
 pub clash-side-spec : {M : Type 1} → statement M
@@ -44,7 +44,7 @@ clash-side-spec =
     (tie.spec
     returns
     (λ c κs. search needs)
-    turned-up-requires
+    mark-runs-up-requires
     (λ c κs. search needs)
-    turned-up-requires-2
+    mark-runs-up-requires-2
     returns-2)

@@ -10,7 +10,7 @@ use Rattle.exact.specs.Facing.{reversedBy, howMany}
 use Rattle.cell.specs.Faces.{facesOf}
 use Rattle.cell.proofs.Faces.{Step}
 use Rattle.facing.specs.Steps.{codeChoice}
-use Rattle.facing.proofs.Reversing.{once, Reversing, reverse-start, reverse-step, reverse-turn, reverse-end}
+use Rattle.facing.proofs.Reversing.{once, Reversing, reverse-start, reverse-step, reverse-next, reverse-end}
 use Rattle.facing.proofs.reverse_faces.Statement.{statement}
 use Rattle.facing.proofs.reverse_faces.Tie as tie
 
@@ -39,41 +39,41 @@ loop-holds c =
     let pre = c .before .before .before .pre in
     (refl, reverse-start (pre .0 .0))
 
-mul-turn-face : tie.Need-mul-turn-face Inv-loop μ-loop
-mul-turn-face c = omega (arith, stretch c .from, stretch c .upto, given c .pre .0 .1)
+mul-reverse-by-code : tie.Need-mul-reverse-by-code Inv-loop μ-loop
+mul-reverse-by-code c = omega (arith, stretch c .from, stretch c .upto, given c .pre .0 .1)
 
-sub-turn-face : tie.Need-sub-turn-face Inv-loop μ-loop
-sub-turn-face c = stretch c .from
+sub-reverse-by-code : tie.Need-sub-reverse-by-code Inv-loop μ-loop
+sub-reverse-by-code c = stretch c .from
 
-part-turn-face-start : tie.Need-part-turn-face-start Inv-loop μ-loop
-part-turn-face-start c = stretch c .from
+part-reverse-by-code-start : tie.Need-part-reverse-by-code-start Inv-loop μ-loop
+part-reverse-by-code-start c = stretch c .from
 
-part-turn-face-end : tie.Need-part-turn-face-end Inv-loop μ-loop
-part-turn-face-end c = omega (arith, stretch c .upto, at c .loop .inv .1 .long)
+part-reverse-by-code-end : tie.Need-part-reverse-by-code-end Inv-loop μ-loop
+part-reverse-by-code-end c = omega (arith, stretch c .upto, at c .loop .inv .1 .long)
 
 add-count : tie.Need-add-count Inv-loop μ-loop
 add-count c =
-    let turn-face = c .before .before .turn-face in
+    let reverse-by-code = c .before .before .reverse-by-code in
     let loop = c .before .before .before .before .before .before .before .loop in
     let start : tie.Start Inv-loop μ-loop = search in
     omega (
       arith,
       loop .inv .1 .few,
       loop .inv .1 .within,
-      turn-face .ensures .1,
+      reverse-by-code .ensures .1,
       once (eqb (getD (start .args .code .now) (loop .f) 0) 2),
       start .pre .1 .1,
     )
 
 loop-again : tie.Need-loop-again Inv-loop μ-loop
 loop-again c =
-    let turn-face = c .before .before .turn-face in
+    let reverse-by-code = c .before .before .reverse-by-code in
     let corner = c .before .before .before .before .before .corner in
     let loop = c .before .before .before .before .before .before .before .loop in
     let start : tie.Start Inv-loop μ-loop = search in (
       refl,
-      reverse-turn (loop .inv .1) (omega arith) (corner .ensures .0) (start .pre .1 .0) refl (turn-face .ensures .0)
-          (omega (arith, turn-face .ensures .1)),
+      reverse-next (loop .inv .1) (omega arith) (corner .ensures .0) (start .pre .1 .0) refl (reverse-by-code .ensures .0)
+          (omega (arith, reverse-by-code .ensures .1)),
     )
 
 returns : tie.Need-returns Inv-loop μ-loop
@@ -87,10 +87,10 @@ reverse-faces-spec =
     μ-loop
     loop-holds
     (λ c κs. search needs) (λ c. search needs)
-    mul-turn-face
-    sub-turn-face
-    part-turn-face-start
-    part-turn-face-end
+    mul-reverse-by-code
+    sub-reverse-by-code
+    part-reverse-by-code-start
+    part-reverse-by-code-end
     (λ c κs. search needs)
     add-count
     (λ c. search needs) (λ c. search needs)

@@ -1,12 +1,12 @@
 use Rattle.geometry.specs.declared.Extent.{Extent}
-use Rattle.geometry.specs.Answers.{extentOr}
+use Rattle.geometry.specs.Cells.{boundsAnswer}
 use Rattle.geometry.proofs.Answers.{refused, passed}
 use borrow.Author.Needs.{needs}
 use Rattle.geometry.proofs.bounds.Statement.{statement}
 use Rattle.geometry.proofs.bounds.Tie as tie
 
 pub bounds-spec : {M : Type 1} → statement M
-unfolding extentOr
+unfolding boundsAnswer
 bounds-spec =
     tie.close
     (tie.spec

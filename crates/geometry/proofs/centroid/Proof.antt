@@ -4,14 +4,14 @@ use native.Mathlib.Omega.{arith}
 use Rattle.cell.proofs.Refusals.{sound}
 use Rattle.places.proofs.Stored.{length-threes}
 use Rattle.geometry.specs.declared.Place.{Place}
-use Rattle.geometry.specs.Answers.{placeOr}
+use Rattle.geometry.specs.Cells.{centroidAnswer}
 use Rattle.geometry.proofs.Answers.{refused, passed}
 use borrow.Author.Needs.{needs}
 use Rattle.geometry.proofs.centroid.Statement.{statement}
 use Rattle.geometry.proofs.centroid.Tie as tie
 
 pub centroid-spec : {M : Type 1} → statement M
-unfolding placeOr
+unfolding centroidAnswer
 centroid-spec =
     tie.close
     (tie.spec

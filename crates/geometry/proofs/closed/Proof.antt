@@ -3,14 +3,14 @@ use mathlib.Core.List.{[]}
 use Rattle.cell.proofs.Refusals.{sound}
 use Rattle.places.proofs.Stored.{length-threes}
 use Rattle.geometry.specs.declared.Truth.{Truth}
-use Rattle.geometry.specs.Answers.{truthOr}
+use Rattle.geometry.specs.Cells.{closedAnswer}
 use Rattle.geometry.proofs.Answers.{refused, passed}
 use borrow.Author.Needs.{needs}
 use Rattle.geometry.proofs.closed.Statement.{statement}
 use Rattle.geometry.proofs.closed.Tie as tie
 
 pub closed-spec : {M : Type 1} → statement M
-unfolding truthOr
+unfolding closedAnswer
 closed-spec =
     tie.close
     (tie.spec

@@ -1,16 +1,27 @@
+-- `geometry::describe` meets its contract: the description is that of the lists.
 use Rattle.geometry.specs.declared.Described.{Described}
-use Rattle.geometry.specs.Answers.{describedOr}
+use Rattle.geometry.specs.Cells.{describeAnswer}
 use Rattle.geometry.proofs.Answers.{refused, passed}
 use borrow.Author.Needs.{needs}
 use Rattle.geometry.proofs.describe.Statement.{statement}
 use Rattle.geometry.proofs.describe.Tie as tie
 
+returns : tie.Need-returns
+unfolding describeAnswer
+returns c = refused (c .before .cell-refusal .ensures) Described.Refused _ (c .if1 .taken)
+
+returns-2 : tie.Need-returns-2
+unfolding describeAnswer
+returns-2 c =
+    let at : tie.Else1 = search in
+    let made : tie.After-description = search in
+    passed (at .before .cell-refusal .ensures) _ (at .if1 .left) (rw (made .description .ensures))
+
 pub describe-spec : {M : Type 1} → statement M
-unfolding describedOr
 describe-spec =
     tie.close
     (tie.spec
     (λ c κs. search needs)
-    (λ c. refused (c .before .cell-refusal .ensures) Described.Refused _ (c .if1 .taken))
+    returns
     (λ c κs. search needs)
-    (λ c. passed (c .before .before .cell-refusal .ensures) _ (c .before .if1 .left) (cc)))
+    returns-2)

@@ -2,14 +2,14 @@ use mathlib.Core.Path.{sym, _∙_}
 use mathlib.Core.List.{[]}
 use Rattle.cell.proofs.Refusals.{sound}
 use Rattle.geometry.specs.declared.Place.{Place}
-use Rattle.geometry.specs.Answers.{placeOr}
+use Rattle.geometry.specs.Cells.{geometricCentroidAnswer}
 use Rattle.geometry.proofs.Answers.{refused, passed}
 use borrow.Author.Needs.{needs}
 use Rattle.geometry.proofs.geometric_centroid.Statement.{statement}
 use Rattle.geometry.proofs.geometric_centroid.Tie as tie
 
 pub geometric-centroid-spec : {M : Type 1} → statement M
-unfolding placeOr
+unfolding geometricCentroidAnswer
 geometric-centroid-spec =
     tie.close
     (tie.spec

@@ -1,22 +1,62 @@
+-- `geometry::is_convex` meets its contract: what is known of the shape decides, and where that is nothing the room looks at the faces.
 use mathlib.Core.Path.{sym, _∙_, ap}
 use mathlib.Core.List.{[]}
-use Rattle.cell.specs.declared.Cell.{Cell}
-use Rattle.cell.specs.Description.{cellOf}
 use Rattle.cell.proofs.Refusals.{sound}
 use Rattle.geometry.specs.declared.Truth.{Truth}
-use Rattle.geometry.specs.Answers.{truthOr}
+use Rattle.geometry.specs.declared.Cell.{Cell}
+use Rattle.geometry.specs.Cells.{cellOf, isConvexOf, isConvexAnswer}
 use Rattle.geometry.proofs.Answers.{refused, passed}
 use borrow.Author.Needs.{needs}
 use Rattle.geometry.proofs.is_convex.Statement.{statement}
 use Rattle.geometry.proofs.is_convex.Tie as tie
 
+returns : tie.Need-returns
+unfolding isConvexAnswer
+returns c = refused (c .before .cell-refusal .ensures) Truth.Refused _ (c .if1 .taken)
+
+compute-convexity-requires : tie.Need-compute-convexity-requires
+compute-convexity-requires c κs =
+    let start : tie.Start = search in
+    let args = start .args in
+    let at : tie.Else1 = search in
+    sound (args .coords .now) (args .corners .now) (args .ends .now) [] [] (sym (at .before .cell-refusal .ensures) ∙ at .if1 .left)
+
+returns-2 : tie.Need-returns-2
+unfolding isConvexAnswer isConvexOf cellOf
+returns-2 c =
+    let at : tie.Else1 = search in
+    let made : tie.After-description = search in
+    let shape = ap (λ (d : Cell). d .convexity) (made .description .ensures) in
+    passed (at .before .cell-refusal .ensures) _ (at .if1 .left) (rw (← shape, c .enum-told .given .1))
+
+returns-3 : tie.Need-returns-3
+unfolding isConvexAnswer isConvexOf cellOf
+returns-3 c =
+    let at : tie.Else1 = search in
+    let made : tie.After-description = search in
+    let shape = ap (λ (d : Cell). d .convexity) (made .description .ensures) in
+    passed (at .before .cell-refusal .ensures) _ (at .if1 .left) (rw (← shape, c .enum-told2 .given .1))
+
+returns-4 : tie.Need-returns-4
+unfolding isConvexAnswer isConvexOf cellOf
+returns-4 c =
+    let at : tie.Else1 = search in
+    let made : tie.After-description = search in
+    let shape = ap (λ (d : Cell). d .convexity) (made .description .ensures) in
+    let asked = c .compute-convexity in
+    passed (at .before .cell-refusal .ensures) _ (at .if1 .left) (rw (← shape, c .before .enum-told3 .given .1, asked .ensures))
+
 pub is-convex-spec : {M : Type 1} → statement M
-unfolding truthOr cellOf
 is-convex-spec =
     tie.close
     (tie.spec
     (λ c κs. search needs)
-    (λ c. refused (c .before .cell-refusal .ensures) Truth.Refused _ (c .if1 .taken))
+    returns
     (λ c κs. search needs)
-    (λ c κs. sound (c .before .before .before .before .before .before .args .coords .now) (c .before .before .before .before .before .before .args .corners .now) (c .before .before .before .before .before .before .args .ends .now) [] [] (sym (c .before .before .cell-refusal .ensures) ∙ c .before .if1 .left))
-    (λ c. let k = ap (λ (x : Cell). x .convexity) (c .before .describe .ensures) in passed (c .before .before .before .cell-refusal .ensures) _ (c .before .before .if1 .left) (cc)))
+    (λ c. search needs)
+    (λ c. search needs)
+    (λ c. search needs)
+    compute-convexity-requires
+    returns-2
+    returns-3
+    returns-4)

@@ -1,19 +1,50 @@
-use Rattle.refusals.proofs.Refusals.{face-known}
-use Rattle.geometry.specs.Answers.{planeRefused, facePlaneOr}
+-- `geometry::plane_of_face` meets its contract: a face that passes the checks has corners, all of them vertices, and the room computes
+-- its plane.
 use mathlib.Core.Path.{sym, _∙_}
+use Rattle.refusals.proofs.Refusals.{SolidFace, face-known}
+use Rattle.geometry.specs.Cells.{refusedPlane, planeOfFaceAnswer}
 use Rattle.geometry.proofs.Answers.{refused, passed}
 use borrow.Author.Needs.{needs}
 use Rattle.geometry.proofs.plane_of_face.Statement.{statement}
 use Rattle.geometry.proofs.plane_of_face.Tie as tie
 
+-- what is known past the checks
+known : (c : tie.Else1) → let s : tie.Start = search in SolidFace (s .args .coords .now) (s .args .corners .now) (s .args .ends .now)
+    (s .args .face)
+known c =
+    let start : tie.Start = search in
+    let args = start .args in
+    face-known (args .coords .now) (args .corners .now) (args .ends .now) (args .face) (sym
+    (c .before .faces-refusal .ensures) ∙ c .if1 .left)
+
+returns : tie.Need-returns
+unfolding planeOfFaceAnswer
+returns c = refused (c .before .faces-refusal .ensures) refusedPlane _ (c .if1 .taken)
+
+face-by-number-requires : tie.Need-face-by-number-requires
+face-by-number-requires c κs = let at : tie.Else1 = search in (known at .ordered, known at .there)
+
+plane-of-face-requires : tie.Need-plane-of-face-requires
+plane-of-face-requires c κs =
+    let at : tie.Else1 = search in
+    let found : tie.After-face-by-number = search in
+    rw (found .face-by-number .ensures) (known at .inside, known at .some)
+
+returns-2 : tie.Need-returns-2
+unfolding planeOfFaceAnswer
+returns-2 c =
+    let at : tie.Else1 = search in
+    let found : tie.After-face-by-number = search in
+    let plane : tie.After-plane-of-face = search in
+    passed (at .before .faces-refusal .ensures) _ (at .if1 .left) (rw (plane .plane-of-face .ensures, found .face-by-number .ensures))
+
 pub plane-of-face-spec : {M : Type 1} → statement M
-unfolding facePlaneOr
 plane-of-face-spec =
     tie.close
     (tie.spec
     (λ c. search needs)
     (λ c κs. search needs)
-    (λ c. refused (c .before .faces-refusal .ensures) planeRefused _ (c .if1 .taken))
-    (λ c κs. let s = face-known (c .before .before .before .before .before .before .args .coords .now) (c .before .before .before .before .before .before .args .corners .now) (c .before .before .before .before .before .before .args .ends .now) (c .before .before .before .before .before .before .args .face) (sym (c .before .faces-refusal .ensures) ∙ c .if1 .left) in (s .ordered, s .there))
-    (λ c κs. let s = face-known (c .before .before .before .before .before .before .before .args .coords .now) (c .before .before .before .before .before .before .before .args .corners .now) (c .before .before .before .before .before .before .before .args .ends .now) (c .before .before .before .before .before .before .before .args .face) (sym (c .before .before .faces-refusal .ensures) ∙ c .before .if1 .left) in rw (c .face-by-number .ensures) (s .inside, s .some))
-    (λ c. passed (c .before .before .before .faces-refusal .ensures) _ (c .before .before .if1 .left) (cc)))
+    returns
+    face-by-number-requires
+    plane-of-face-requires
+    returns-2)

@@ -1,6 +1,6 @@
 use mathlib.Core.Path.{sym, _∙_}
 use Rattle.geometry.specs.declared.Truth.{Truth}
-use Rattle.geometry.specs.Answers.{truthOr}
+use Rattle.geometry.specs.Cells.{pointInPhedAnswer}
 use Rattle.geometry.proofs.Answers.{refused, passed}
 use Rattle.refusals.proofs.Refusals.{phed-known}
 use borrow.Author.Needs.{needs}
@@ -8,7 +8,7 @@ use Rattle.geometry.proofs.point_in_phed.Statement.{statement}
 use Rattle.geometry.proofs.point_in_phed.Tie as tie
 
 pub point-in-phed-spec : {M : Type 1} → statement M
-unfolding truthOr
+unfolding pointInPhedAnswer
 point-in-phed-spec =
     tie.close
     (tie.spec

@@ -1,12 +1,12 @@
 use Rattle.geometry.specs.declared.Number.{Number}
-use Rattle.geometry.specs.Answers.{numberOr}
+use Rattle.geometry.specs.Cells.{scaleAnswer}
 use Rattle.geometry.proofs.Answers.{refused, passed}
 use borrow.Author.Needs.{needs}
 use Rattle.geometry.proofs.scale.Statement.{statement}
 use Rattle.geometry.proofs.scale.Tie as tie
 
 pub scale-spec : {M : Type 1} → statement M
-unfolding numberOr
+unfolding scaleAnswer
 scale-spec =
     tie.close
     (tie.spec

@@ -1,49 +1,58 @@
-use mathlib.Core.Path.{_≡_, sym, _∙_, refl}
-use mathlib.Core.Bool.{true, false}
-use mathlib.Core.List.{[], _∷_}
-use native.Mathlib.Omega.{arith}
-use lib.ListN.{length, getD}
-use lib.Dec.{ltb}
-use Prim.Native.Nat.{_-_}
-use borrow.Author.Tests.{ltb-false}
-use Rattle.cell.specs.Faces.{facesOf}
-use Rattle.cell.proofs.Refusals.{sound, asked-known}
+-- `geometry::triangles` meets its contract: what the checks let through is a face of the cell that the list has room for, and the room
+-- cuts it.
+use mathlib.Core.Path.{_≡_, sym, _∙_}
+use mathlib.Core.List.{List}
+use Prim.Native.Nat.{ℕ}
+use lib.ListN.{length}
+use Rattle.refusals.proofs.Refusals.{Cuttable, cut-known}
 use Rattle.geometry.specs.declared.Count.{Count}
-use Rattle.geometry.specs.Answers.{countOr, frontOr, faceTriangles}
-use Rattle.refusals.specs.Refusals.{roomRefused}
-use Rattle.geometry.proofs.Answers.{refused, passed, kept}
-use Rattle.refusals.proofs.Refusals.{first-decides, room-decides, face-sound}
+use Rattle.geometry.specs.Cells.{trianglesAnswer}
+use Rattle.geometry.proofs.Answers.{refused, passed}
 use borrow.Author.Needs.{needs}
 use Rattle.geometry.proofs.triangles.Statement.{statement}
 use Rattle.geometry.proofs.triangles.Tie as tie
 
+-- what is known past the checks
+known : (c : tie.Else1) → let s : tie.Start = search in
+    Cuttable (s .args .coords .now) (s .args .corners .now) (s .args .ends .now) (s .args .face) (length (s .args .out .now))
+known c =
+    let start : tie.Start = search in
+    let args = start .args in
+    cut-known (args .coords .now) (args .corners .now) (args .ends .now) (args .face) (length (args .out .now))
+    (sym (c .before .triangles-refusal .ensures) ∙ c .if1 .left)
+
+returns : tie.Need-returns
+unfolding trianglesAnswer
+returns c =
+    let start : tie.Start = search in
+    let out = start .args .out .now in
+    refused (c .before .triangles-refusal .ensures) (λ why. (Count.Refused why, out)) _ (c .if1 .taken)
+
+face-by-number-requires : tie.Need-face-by-number-requires
+face-by-number-requires c κs = let at : tie.Else1 = search in (known at .ordered, known at .there)
+
+cut-requires : tie.Need-cut-requires
+cut-requires c κs =
+    let at : tie.Else1 = search in
+    let found : tie.After-face-by-number = search in
+    rw (found .face-by-number .ensures) (known at .inside, (known at .few, known at .fits))
+
+returns-2 : tie.Need-returns-2
+unfolding trianglesAnswer
+returns-2 c =
+    let at : tie.Else1 = search in
+    let found : tie.After-face-by-number = search in
+    let made : tie.After-cut = search in
+    let shown = rw (found .face-by-number .ensures) at (made .cut .ensures) in
+    passed (at .before .triangles-refusal .ensures) _ (at .if1 .left) (rw (shown .written, shown .count))
+
 pub triangles-spec : {M : Type 1} → statement M
-unfolding countOr frontOr roomRefused faceTriangles
 triangles-spec =
     tie.close
     (tie.spec
-    (λ c. search needs)
-    (λ c. search needs)
     (λ c κs. search needs)
-    (λ c. let f = first-decides (c .before .before .before .before .before .before .before .args .coords .now) (c .before .before .before .before .before .before .before .args .corners .now) (c .before .before .before .before .before .before .before .args .ends .now) (c .before .before .before .before .before .before .before .args .face) (length (c .before .before .before .before .before .before .before .args .out .now)) (c .before .refusal .ensures) (c .if1 .taken) in
-    (refused f Count.Refused _ (c .if1 .taken), kept f _ _ (c .if1 .taken)))
-    (λ c κs. let z = sym (c .before .refusal .ensures) ∙ c .if1 .left in
-    (sound (c .before .before .before .before .before .before .before .args .coords .now) (c .before .before .before .before .before .before .before .args .corners .now) (c .before .before .before .before .before .before .before .args .ends .now) [] (c .before .before .before .before .before .before .before .args .face ∷ []) z .ordered, asked-known (c .before .before .before .before .before .before .before .args .coords .now) (c .before .before .before .before .before .before .before .args .corners .now) (c .before .before .before .before .before .before .before .args .ends .now) [] (c .before .before .before .before .before .before .before .args .face ∷ []) z .holds 0 (omega arith)))
-    (λ c κs. search needs)
-    (λ c. let a = c .before .before .before .before .before .before .before .before .before .before .args in
-    let r : ltb (length (a .out .now)) (length (getD (facesOf (a .corners .now) (a .ends .now)) (a .face) []) - 2) ≡ true = cc in
-    let f = room-decides (a .coords .now) (a .corners .now) (a .ends .now) (a .face) (length (a .out .now)) true (c .before .before .before .before .refusal .ensures) (c .before .before .before .if1 .left) r in
-    (refused f Count.Refused _ (λ z. absurd (omega arith)), kept f _ _ (λ z. absurd (omega arith))))
-    (λ c κs. let a = c .before .before .before .before .before .before .before .before .before .before .before .args in
-    let z = sym (c .before .before .before .before .before .refusal .ensures) ∙ c .before .before .before .before .if1 .left in
-    let k = asked-known (a .coords .now) (a .corners .now) (a .ends .now) [] (a .face ∷ []) z .holds 0 (omega arith) in
-    let s = face-sound (a .coords .now) (a .corners .now) (a .ends .now) (a .face) (sound (a .coords .now) (a .corners .now) (a .ends .now) [] (a .face ∷ []) z) k in
-    let r : ltb (length (a .out .now)) (length (getD (facesOf (a .corners .now) (a .ends .now)) (a .face) []) - 2) ≡ false = cc in
-    rw (c .before .before .before .face-by-number .ensures) (s .0, (s .1, ltb-false _ _ r)))
+    returns
+    face-by-number-requires
+    cut-requires
     (λ c. search needs)
-    (λ c. let a = c .before .before .before .before .before .before .before .before .before .before .before .before .before .args in
-    let ts = faceTriangles (a .coords .now) (a .corners .now) (a .ends .now) (a .face) in
-    let r : ltb (length (a .out .now)) (length (getD (facesOf (a .corners .now) (a .ends .now)) (a .face) []) - 2) ≡ false = cc in
-    let f = room-decides (a .coords .now) (a .corners .now) (a .ends .now) (a .face) (length (a .out .now)) false (c .before .before .before .before .before .before .before .refusal .ensures) (c .before .before .before .before .before .before .if1 .left) r in
-    let n : c .before .cut .result .triangles ≡ length ts = cc in
-    (passed f _ refl (cc), passed f _ refl (cc))))
+    returns-2)

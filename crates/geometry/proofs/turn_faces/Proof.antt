@@ -6,10 +6,10 @@ use native.Mathlib.Omega.{arith}
 use lib.ListN.{length}
 use Rattle.places.proofs.Lists.{first-of}
 use Rattle.places.proofs.Stored.{length-threes}
-use Rattle.cell.specs.Refusals.{Sound}
+use Rattle.cell.specs.Steps.{Sound}
 use Rattle.cell.proofs.Refusals.{sound}
 use Rattle.facing.proofs.Chosen.{blank-part}
-use Rattle.geometry.proofs.Turned.{turn-refused, turn-none, turn-done}
+use Rattle.geometry.proofs.TurnFaces.{turn-faces-refused, turn-faces-none, turn-faces-done}
 use borrow.Author.Needs.{needs}
 use Rattle.geometry.proofs.turn_faces.Statement.{statement}
 use Rattle.geometry.proofs.turn_faces.Tie as tie
@@ -25,7 +25,7 @@ returns : tie.Need-returns
 returns c =
     let start : tie.Start = search in
     let args = start .args in
-    turn-refused (args .coords .now) (args .corners .now) (args .ends .now) (c .before .cell-refusal .ensures) (c .if1 .taken)
+    turn-faces-refused (args .coords .now) (args .corners .now) (args .ends .now) (c .before .cell-refusal .ensures) (c .if1 .taken)
 
 array-borrow-prefix-code : tie.Need-array-borrow-prefix-code
 array-borrow-prefix-code c = let at : tie.Else1 = search in whole at .few-faces
@@ -50,7 +50,7 @@ returns-2 c =
     let at : tie.Else1 = search in
     let chosen : tie.After-choose = search in
     let unturned : tie.Then2 = search in
-    turn-none (args .coords .now) (args .corners .now) (args .ends .now) (at .before .cell-refusal .ensures) (at .if1 .left)
+    turn-faces-none (args .coords .now) (args .corners .now) (args .ends .now) (at .before .cell-refusal .ensures) (at .if1 .left)
     (chosen .choose .ensures) (unturned .if2 .taken)
 
 reverse-faces-requires : tie.Need-reverse-faces-requires
@@ -69,7 +69,7 @@ returns-3 c =
     let chosen : tie.After-choose = search in
     let passed : tie.Else2 = search in
     let reversed : tie.After-reverse-faces = search in
-    turn-done (args .coords .now) (args .corners .now) (args .ends .now) (at .before .cell-refusal .ensures) (at .if1 .left)
+    turn-faces-done (args .coords .now) (args .corners .now) (args .ends .now) (at .before .cell-refusal .ensures) (at .if1 .left)
     (chosen .choose .ensures) (passed .if2 .left) (reversed .reverse-faces .ensures .0) (reversed .reverse-faces .ensures .1)
 
 pub turn-faces-spec : {M : Type 1} → statement M

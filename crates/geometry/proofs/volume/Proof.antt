@@ -2,14 +2,14 @@ use mathlib.Core.Path.{sym, _∙_}
 use mathlib.Core.List.{[]}
 use Rattle.cell.proofs.Refusals.{sound}
 use Rattle.geometry.specs.declared.Number.{Number}
-use Rattle.geometry.specs.Answers.{numberOr}
+use Rattle.geometry.specs.Cells.{volumeAnswer}
 use Rattle.geometry.proofs.Answers.{refused, passed}
 use borrow.Author.Needs.{needs}
 use Rattle.geometry.proofs.volume.Statement.{statement}
 use Rattle.geometry.proofs.volume.Tie as tie
 
 pub volume-spec : {M : Type 1} → statement M
-unfolding numberOr
+unfolding volumeAnswer
 volume-spec =
     tie.close
     (tie.spec

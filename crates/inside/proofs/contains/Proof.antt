@@ -4,7 +4,7 @@ use native.Mathlib.Omega.{arith}
 use lib.ListN.{length}
 use Rattle.flat.specs.Points.{verticesOf}
 use Rattle.cell.specs.Faces.{facesOf}
-use Rattle.cell.proofs.Faces.{Facing, face-start, face-step, face-turn, face-end}
+use Rattle.cell.proofs.Faces.{Facing, face-start, face-step, face-next, face-end}
 use Rattle.inside.specs.Inside.{crossFace, containsOf}
 use Rattle.places.proofs.Lists.{each-slice}
 use borrow.Author.Needs.{needs}
@@ -24,5 +24,5 @@ contains-spec =
     (λ c κs. rw (c .face .ensures) (each-slice (c .before .before .before .loop .start) (c .before .corner .result) _ (c .before .before .before .before .before .before .before .pre .inside)))
     (λ c. search needs)
     (λ c. search needs)
-    (λ c. face-turn (c .before .before .before .before .loop .inv) (omega arith) (c .before .before .corner .ensures .0) (cc))
+    (λ c. face-next (c .before .before .before .before .loop .inv) (omega arith) (c .before .before .corner .ensures .0) (cc))
     (λ c. face-end (c .before .loop .inv) (omega arith)))

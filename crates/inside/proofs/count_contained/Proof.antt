@@ -3,7 +3,7 @@ use mathlib.Core.List.{[]}
 use Prim.Native.Nat.{_-_}
 use lib.ListN.{length}
 use Rattle.places.specs.Loops.{countOf}
-use Rattle.places.proofs.Loops.{Counting, count-start, count-turn, count-end}
+use Rattle.places.proofs.Loops.{Counting, count-start, count-next, count-end}
 use Rattle.places.proofs.Stored.{length-threes}
 use Rattle.flat.specs.Points.{verticesOf}
 use Rattle.cell.specs.Faces.{facesOf}
@@ -25,5 +25,5 @@ count-contained-spec =
     (λ c. search needs)
     (λ c. search needs)
     (λ c. search needs)
-    (λ c. (c .before .before .before .before .loop .inv .0, count-turn [] (c .before .before .before .before .loop .inv .1) (search needs) (cc)))
+    (λ c. (c .before .before .before .before .loop .inv .0, count-next [] (c .before .before .before .before .loop .inv .1) (search needs) (cc)))
     (λ c. count-end (c .before .loop .inv .1) (search needs)))

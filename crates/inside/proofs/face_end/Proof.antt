@@ -2,7 +2,7 @@ use mathlib.Core.Path.{_≡_, refl}
 use Prim.Native.Nat.{_+_, _-_, _≤_}
 use native.Mathlib.Omega.{arith}
 use lib.ListN.{length, drop}
-use Rattle.inside.specs.Inside.{beforeMark}
+use Rattle.inside.specs.Steps.{beforeMark}
 use Rattle.inside.proofs.Marks.{before-mark, before-corner, before-none}
 use borrow.Author.Needs.{needs}
 use Rattle.inside.proofs.face_end.Statement.{statement}

@@ -6,7 +6,7 @@ use lib.ListN.{length}
 use Rattle.flat.specs.Points.{verticesOf}
 use Rattle.flat.specs.Flat.{pointsOf}
 use Rattle.inside.specs.Ray.{passSide, inOutline}
-use Rattle.places.proofs.Walks.{Walking, walk-start, walk-turn, walk-end}
+use Rattle.places.proofs.Walks.{Walking, walk-start, walk-next, walk-end}
 use Rattle.inside.proofs.Outlines.{length-points, points-at, no-outline}
 use borrow.Author.Needs.{needs}
 use Rattle.inside.proofs.in_outline.Statement.{statement}
@@ -30,7 +30,7 @@ in-outline-spec =
     (λ c. search needs)
     (λ c. let a = c .before .before .before .before .before .before .before .before .args in
     let e = length-points (verticesOf (a .coords .now)) (a .axis) (a .face .now) in
-    (c .before .before .before .loop .inv .0, walk-turn [] (c .before .before .before .loop .inv .1) (omega arith) (c .before .point-at2 .ensures ∙ sym (points-at _ _ _ _ (omega arith))) (c .pass-side .ensures)))
+    (c .before .before .before .loop .inv .0, walk-next [] (c .before .before .before .loop .inv .1) (omega arith) (c .before .point-at2 .ensures ∙ sym (points-at _ _ _ _ (omega arith))) (c .pass-side .ensures)))
     (λ c κs. search needs)
     (λ c. let a = c .before .before .before .before .before .before .before .args in
     let e = length-points (verticesOf (a .coords .now)) (a .axis) (a .face .now) in

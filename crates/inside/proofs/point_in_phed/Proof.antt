@@ -3,7 +3,7 @@ use native.Mathlib.Omega.{arith}
 use lib.ListN.{length}
 use Rattle.flat.specs.Points.{verticesOf}
 use Rattle.inside.specs.Inside.{phedContainsOf}
-use Rattle.inside.proofs.Marks.{Marking, mark-start, mark-turn, mark-end, end-within, inside-marked}
+use Rattle.inside.proofs.Marks.{Marking, mark-start, mark-next, mark-end, end-within, inside-marked}
 use Rattle.inside.proofs.point_in_phed.Statement.{statement}
 use Rattle.inside.proofs.point_in_phed.Tie as tie
 
@@ -22,5 +22,5 @@ point-in-phed-spec =
     (λ c κs. inside-marked (verticesOf (c .before .before .before .before .before .before .args .coords .now)) _ _ _ (c .before .face-end .ensures) (c .before .before .before .before .before .before .pre .0))
     (λ c. omega (arith, end-within (c .before .before .before .before .before .before .before .args .cs .now) (c .before .before .before .before .loop .start) (omega arith)))
     (λ c. omega (arith, end-within (c .before .before .before .before .before .before .before .args .cs .now) (c .before .before .before .before .loop .start) (omega arith)))
-    (λ c. mark-turn (c .before .before .before .before .loop .inv) (c .before .before .face-end .ensures) (c .cross-marked .ensures))
+    (λ c. mark-next (c .before .before .before .before .loop .inv) (c .before .before .face-end .ensures) (c .cross-marked .ensures))
     (λ c. mark-end (c .before .loop .inv) (omega arith)))

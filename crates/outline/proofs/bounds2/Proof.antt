@@ -3,9 +3,10 @@ use Prim.Native.Nat.{_-_}
 use lib.ListN.{length}
 use lib.Ieee.{div, ofBits, neg}
 use Rattle.places.specs.Stored.{inPairs}
-use Rattle.places.proofs.Loops.{Taking, take-start, take-turn, take-end}
+use Rattle.places.proofs.Loops.{Taking, take-start, take-next, take-end}
 use Rattle.places.proofs.Stored.{length-pairs}
-use Rattle.flat.specs.Points.{widenOf, boundsOf, Numbers}
+use Rattle.flat.specs.Points.{widenOf, boundsOf}
+use Rattle.flat.specs.Steps.{Numbers}
 use Rattle.flat.proofs.Boxes.{numbers-start, numbers-widened}
 use mathlib.Core.List.{[]}
 use borrow.Author.Needs.{needs}
@@ -24,5 +25,5 @@ bounds2-spec =
     (λ c κs. search needs)
     (λ c. search needs)
     (λ c. search needs)
-    (λ c. (c .before .before .before .loop .inv .0, take-turn [] (c .before .before .before .loop .inv .1) (search needs) (cc), numbers-widened _ (c .before .before .before .loop .inv .2) (c .widen2 .ensures)))
+    (λ c. (c .before .before .before .loop .inv .0, take-next [] (c .before .before .before .loop .inv .1) (search needs) (cc), numbers-widened _ (c .before .before .before .loop .inv .2) (c .widen2 .ensures)))
     (λ c. take-end (c .before .loop .inv .1) (search needs)))

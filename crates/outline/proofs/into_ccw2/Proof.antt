@@ -13,6 +13,6 @@ into-ccw2-spec =
     (λ c κs. search needs)
     (λ c κs. search needs)
     (λ c. search needs)
-    (λ c. rw (← c .before .before .before .before .before .signed-area2 .ensures, c .before .before .before .before .if1 .taken, ← c .before .before .reverse-points .ensures) (sym (joined-pairs (c .before .before .reverse-points .last .0) (rw (c .before .before .reverse-points .kept .0) (c .before .before .before .before .before .before .before .before .pre)))))
+    (λ c. rw (← c .before .before .before .before .before .signed-area2 .ensures, c .before .before .before .before .if1 .taken, ← c .before .before .reverse-points .ensures .0) (sym (joined-pairs (c .before .before .reverse-points .last .0) (rw (c .before .before .reverse-points .kept .0) (c .before .before .before .before .before .before .before .before .pre)))))
     (λ c. search needs)
     (λ c. rw (← c .before .signed-area2 .ensures, c .if1 .left) (sym (joined-pairs (c .before .before .before .before .args .ps .now) (c .before .before .before .before .pre)))))

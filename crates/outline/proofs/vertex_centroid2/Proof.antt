@@ -4,7 +4,7 @@ use lib.ListN.{length}
 use native.Mathlib.Omega.{arith}
 use Rattle.places.specs.Loops.{foldList}
 use Rattle.places.specs.Stored.{inPairs}
-use Rattle.places.proofs.Loops.{Taking, take-start, take-turn, take-end}
+use Rattle.places.proofs.Loops.{Taking, take-start, take-next, take-end}
 use Rattle.places.proofs.Stored.{length-pairs}
 use Rattle.floats.specs.F64.{zero64}
 use Rattle.flat.specs.Points.{pointBy, plusOf, centroidOf}
@@ -25,7 +25,7 @@ vertex-centroid2-spec =
     (λ c κs. search needs)
     (λ c. search needs)
     (λ c. search needs)
-    (λ c. (c .before .before .before .loop .inv .0, c .before .before .before .loop .inv .1, take-turn [] (c .before .before .before .loop .inv .2) (search needs) (cc)))
+    (λ c. (c .before .before .before .loop .inv .0, c .before .before .before .loop .inv .1, take-next [] (c .before .before .before .loop .inv .2) (search needs) (cc)))
     (λ c. search needs)
     (λ c κs. search needs)
     (λ c κs. search needs)

@@ -5,7 +5,7 @@ use mathlib.Core.List.{[]}
 use Rattle.places.proofs.Stored.{length-threes}
 use native.Mathlib.Omega.{arith}
 use Rattle.flat.specs.Points.{verticesOf, minusOf}
-use Rattle.overlap.proofs.Fans.{Fanning, fanOf, fan-start, fan-turn, fan-end, contribution-is, contribution-none}
+use Rattle.overlap.proofs.Fans.{Fanning, fanOf, fan-start, fan-next, fan-end, contribution-is, contribution-none}
 use borrow.Author.Needs.{needs}
 use Rattle.overlap.proofs.contribution.Statement.{statement}
 use Rattle.overlap.proofs.contribution.Tie as tie
@@ -27,5 +27,5 @@ contribution-spec =
     (λ c κs. search needs)
     (λ c. search needs)
     (λ c. search needs)
-    (λ c. (c .before .before .before .before .loop .inv .0, c .before .before .before .before .loop .inv .1, fan-turn (c .before .before .before .before .loop .inv .2) (search needs) (cc) (cc)))
+    (λ c. (c .before .before .before .before .loop .inv .0, c .before .before .before .before .loop .inv .1, fan-next (c .before .before .before .before .loop .inv .2) (search needs) (cc) (cc)))
     (λ c. rw (fan-end (c .before .loop .inv .2) (omega (arith, c .before .loop .inv .0))) (contribution-is (c .before .before .before .before .before .before .before .before .args .reference) _ (omega (arith, length-threes (c .before .before .before .before .before .before .before .before .args .s .now))))))

@@ -10,4 +10,4 @@ magnitude-of-spec =
     (λ c κs. search needs)
     (λ c. search needs)
     (λ c. rw (c .before .before .sum .given .1, ← c .magnitude .ensures))
-    (λ c. rw (c .before .sum2 .given .1)))
+    (λ c. rw (c .enum-told .given .1)))

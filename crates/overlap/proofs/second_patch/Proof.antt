@@ -9,8 +9,8 @@ second-patch-spec =
     tie.close
     (tie.spec
     (λ c κs. search needs)
-    (λ c. patch-skipped true (c .before .before .before .before .before .before .before .args .m) (c .before .before .before .before .before .before .before .pre) (c .before .any-skips .ensures) (c .if1 .taken))
+    (λ c. patch-skipped true (c .before .before .before .before .before .before .before .args .m) (c .before .before .before .before .before .before .before .pre) (c .before .any-coplanar-skip .ensures) (c .if1 .taken))
     (λ c κs. (c .before .before .before .before .before .before .before .before .before .pre .inside, ((c .before .before .before .before .before .before .before .before .before .pre .few-corners, c .before .before .before .before .before .before .before .before .before .pre .few-planes), (c .before .before .before .before .before .before .before .before .before .pre .short-first, c .before .before .before .before .before .before .before .before .before .pre .short-second))))
     (λ c. search needs)
     (λ c. search needs)
-    (λ c. patch-clipped true (c .before .before .before .before .before .before .before .before .before .before .before .before .before .before .args .m) (c .before .before .before .before .before .before .before .before .before .before .before .before .before .before .pre) (c .before .before .before .before .before .before .before .before .any-skips .ensures) (c .before .before .before .before .before .before .before .if1 .left) (c .before .before .before .before .clip-face .ensures)))
+    (λ c. patch-clipped true (c .before .before .before .before .before .before .before .before .before .before .before .before .before .before .args .m) (c .before .before .before .before .before .before .before .before .before .before .before .before .before .before .pre) (c .before .before .before .before .before .before .before .before .any-coplanar-skip .ensures) (c .before .before .before .before .before .before .before .if1 .left) (c .before .before .before .before .clip-face .ensures)))

@@ -3,8 +3,8 @@ use mathlib.Core.List.{reverse}
 use Prim.Native.Nat.{_-_, _/_}
 use native.Mathlib.Omega.{arith}
 use lib.ListN.{length}
-use Rattle.places.proofs.Turns.{Folding, fold-end}
-use Rattle.places.proofs.Reversal.{mirror, mirror-start, mirror-turn}
+use Rattle.places.proofs.Folding.{Folding, fold-end}
+use Rattle.places.proofs.Reversal.{mirror, mirror-start, mirror-next}
 use borrow.Author.Needs.{needs}
 use Rattle.places.proofs.reverse_corners.Statement.{statement}
 use Rattle.places.proofs.reverse_corners.Tie as tie
@@ -21,6 +21,6 @@ reverse-corners-spec =
     (λ c κs. (omega arith, omega arith))
     (λ c. search needs)
     (λ c. search needs)
-    (λ c. let l = c .before .before .before .before .before .loop .inv in (l .0, l .1, c .before .before .swap-corners .kept .0 ∙ l .2, mirror-turn 0 _ (l .3) (omega arith) (cc)))
+    (λ c. let l = c .before .before .before .before .before .loop .inv in (l .0, l .1, c .before .before .swap-corners .kept .0 ∙ l .2, mirror-next 0 _ (l .3) (omega arith) (cc)))
     (λ c. search needs)
     (λ c. fold-end (c .before .loop .inv .3) (omega arith)))

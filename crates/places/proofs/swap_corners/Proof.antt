@@ -1,5 +1,5 @@
 use mathlib.Core.Path.{refl}
-use Rattle.places.specs.Lists.{swapped}
+use Rattle.places.specs.Steps.{swapped}
 use borrow.Author.Needs.{needs}
 use Rattle.places.proofs.swap_corners.Statement.{statement}
 use Rattle.places.proofs.swap_corners.Tie as tie

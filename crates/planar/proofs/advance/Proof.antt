@@ -1,8 +1,8 @@
 use native.Mathlib.Omega.{arith}
 use borrow.Author.Tests.{lt-ltb, le-ltb}
 use Rattle.places.proofs.Stored.{length-pairs}
-use Rattle.work.specs.Steps.{shows-gone, shows-full, shows-made}
-use Rattle.work.proofs.Filling.{filled-read, filled-over, filled-within}
+use Rattle.work_lists.specs.Steps.{shows-gone, shows-full, shows-made}
+use Rattle.work_lists.proofs.Filling.{filled-read, filled-over, filled-within}
 use Rattle.planar.specs.Planar.{edgeChange}
 use borrow.Author.Needs.{needs}
 use Rattle.planar.proofs.advance.Statement.{statement}

@@ -2,7 +2,7 @@ use Prim.Native.Nat.{_/_}
 use native.Mathlib.Omega.{arith}
 use lib.ListN.{length}
 use Rattle.places.proofs.Stored.{length-pairs}
-use Rattle.work.proofs.Alternation.{shorter-fits, clipped-full, clipped-run}
+use Rattle.work_lists.proofs.Alternation.{shorter-fits, clipped-full, clipped-run}
 use Rattle.planar.specs.Planar.{clipConvexOf}
 use borrow.Author.Needs.{needs}
 use Rattle.planar.proofs.clip_convex.Statement.{statement}

@@ -1,5 +1,5 @@
-use Rattle.work.proofs.Endings.{reads-pairs}
-use Rattle.work.proofs.Clearing.{shown-fits, settled}
+use Rattle.work_lists.proofs.Endings.{reads-pairs}
+use Rattle.work_lists.proofs.Clearing.{shown-fits, settled}
 use borrow.Author.Needs.{needs}
 use Rattle.planar.proofs.clip_convex_shown.Statement.{statement}
 use Rattle.planar.proofs.clip_convex_shown.Tie as tie

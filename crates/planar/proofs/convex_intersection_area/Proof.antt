@@ -1,5 +1,5 @@
 use native.Mathlib.Omega.{arith}
-use Rattle.work.proofs.Endings.{reads-pairs, outline-fits, outline-small}
+use Rattle.work_lists.proofs.Endings.{reads-pairs, outline-fits, outline-small}
 use Rattle.planar.proofs.Areas.{area-none, area-shown, area-refused}
 use borrow.Author.Needs.{needs}
 use Rattle.planar.proofs.convex_intersection_area.Statement.{statement}
@@ -25,4 +25,4 @@ convex-intersection-area-spec =
     (λ c. area-shown (c .before .before .before .before .before .before .before .before .before .before .before .before .clip-convex .last .1 .1 .0) (c .before .before .before .before .before .before .before .before .before .before .before .before .clip-convex .last .1 .1 .1 .0) (rw (c .before .before .before .before .before .before .n .given .1) at (c .before .before .before .before .before .before .before .before .before .before .before .before .clip-convex .ensures)) (c .before .before .shown .ensures) (c .before .signed-area2 .ensures) (c .magnitude .ensures))
     (λ c. search needs)
     (λ c. search needs)
-    (λ c. area-refused (rw (c .before .k .given .1) at (c .before .before .before .before .before .before .before .clip-convex .ensures))))
+    (λ c. area-refused (rw (c .enum-told2 .given .1) at (c .before .before .before .before .before .before .clip-convex .ensures))))

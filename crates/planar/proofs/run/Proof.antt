@@ -7,8 +7,8 @@ use Rattle.places.specs.Stored.{inPairs}
 use Rattle.places.specs.Ring.{sides}
 use Rattle.places.proofs.Stored.{length-pairs}
 use Rattle.places.proofs.Rings.{length-sides}
-use Rattle.work.specs.Work.{runOf}
-use Rattle.work.proofs.Alternation.{Alternating, alternate-start, alternate-gone, alternate-full, alternate-kept, alternate-made, alternate-none, alternate-end}
+use Rattle.work_lists.specs.WorkLists.{runOf}
+use Rattle.work_lists.proofs.Alternation.{Alternating, alternate-start, alternate-gone, alternate-full, alternate-kept, alternate-made, alternate-none, alternate-end}
 use Rattle.planar.specs.Planar.{edgeChange}
 use Rattle.planar.proofs.Edges.{edge-at}
 use borrow.Author.Needs.{needs}

@@ -7,7 +7,7 @@ use Rattle.flat.specs.Points.{verticesOf}
 use Rattle.cell.specs.Faces.{facesOf}
 use Rattle.planes.specs.Planes.{inFours, planesOf}
 use Rattle.planes.proofs.Stored.{length-fours}
-use Rattle.planes.proofs.Faces.{Laying, facePlane, lay-start, lay-step, lay-corner, lay-turn, lay-end}
+use Rattle.planes.proofs.Faces.{Laying, facePlane, lay-start, lay-step, lay-corner, lay-next, lay-end}
 use borrow.Author.Needs.{needs}
 use Rattle.planes.proofs.planes.Statement.{statement}
 use Rattle.planes.proofs.planes.Tie as tie
@@ -26,6 +26,6 @@ planes-spec =
     (λ c κs. omega (arith, c .before .before .before .before .before .loop .inv .1 .room))
     (λ c. search needs)
     (λ c. omega arith)
-    (λ c. (search needs, lay-turn (c .before .before .before .before .before .before .before .before .loop .inv .1) (c .before .before .before .before .before .before .before .loop-test .taken) (c .before .before .before .before .before .before .corner .ensures .0) (cc)))
+    (λ c. (search needs, lay-next (c .before .before .before .before .before .before .before .before .loop .inv .1) (c .before .before .before .before .before .before .before .loop-test .taken) (c .before .before .before .before .before .before .corner .ensures .0) (cc)))
     (λ c. c .before .loop .inv .0)
     (λ c. lay-end (c .before .loop .inv .1) (c .loop-test .left)))

@@ -2,7 +2,7 @@ use mathlib.Core.Path.{_≡_, refl}
 use Prim.Native.Nat.{_-_}
 use lib.ListN.{length}
 use Rattle.places.specs.Loops.{anyOf}
-use Rattle.places.proofs.Loops.{Taking, take-start, take-turn, take-end, orTest, any-taken}
+use Rattle.places.proofs.Loops.{Taking, take-start, take-next, take-end, orTest, any-taken}
 use Rattle.refusals.specs.Refusals.{strays}
 use borrow.Author.Needs.{needs}
 use Rattle.refusals.proofs.strays_in.Statement.{statement}
@@ -21,5 +21,5 @@ strays-in-spec =
     (λ c κs. search needs)
     (λ c. search needs)
     (λ c. search needs)
-    (λ c. (c .before .before .before .before .loop .inv .0, take-turn 0 (c .before .before .before .before .loop .inv .1) (search needs) (cc)))
+    (λ c. (c .before .before .before .before .loop .inv .0, take-next 0 (c .before .before .before .before .loop .inv .1) (search needs) (cc)))
     (λ c. take-end (c .before .loop .inv .1) (search needs)))

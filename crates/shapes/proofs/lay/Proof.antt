@@ -3,7 +3,7 @@ use Prim.Native.Nat.{_-_}
 use native.Mathlib.Omega.{arith}
 use lib.ListN.{length}
 use Rattle.places.proofs.Stored.{length-threes}
-use Rattle.shapes.proofs.Laying.{Laying, lay-start, lay-turn, lay-end}
+use Rattle.shapes.proofs.Laying.{Laying, lay-start, lay-next, lay-end}
 use borrow.Author.Needs.{needs}
 use Rattle.shapes.proofs.lay.Statement.{statement}
 use Rattle.shapes.proofs.lay.Tie as tie
@@ -20,6 +20,6 @@ lay-spec =
     (λ c κs. omega (arith, length-threes (c .before .before .before .loop .coords)))
     (λ c. search needs)
     (λ c. search needs)
-    (λ c. (refl, lay-turn (c .before .before .before .before .before .before .loop .inv .1) (search needs) (c .before .before .put-vertex .kept .0) (c .before .before .put-vertex .ensures)))
+    (λ c. (refl, lay-next (c .before .before .before .before .before .before .loop .inv .1) (search needs) (c .before .before .put-vertex .kept .0) (c .before .before .put-vertex .ensures .0)))
     (λ c. search needs)
     (λ c. lay-end (c .before .loop .inv .1) (search needs)))

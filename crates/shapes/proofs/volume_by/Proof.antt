@@ -2,7 +2,7 @@ use mathlib.Core.Path.{_≡_, refl}
 use mathlib.Core.List.{[]}
 use Prim.Native.Nat.{_-_}
 use lib.ListN.{length}
-use Rattle.places.proofs.Loops.{Taking, take-start, take-turn, take-end}
+use Rattle.places.proofs.Loops.{Taking, take-start, take-next, take-end}
 use Rattle.shapes.specs.Shapes.{addTet, volumeBy}
 use borrow.Author.Needs.{needs}
 use Rattle.shapes.proofs.volume_by.Statement.{statement}
@@ -21,5 +21,5 @@ volume-by-spec =
     (λ c κs. c .before .before .before .pre .holds _ (search needs))
     (λ c. search needs)
     (λ c. search needs)
-    (λ c. (c .before .before .before .loop .inv .0, take-turn [] (c .before .before .before .loop .inv .1) (search needs) (cc)))
+    (λ c. (c .before .before .before .loop .inv .0, take-next [] (c .before .before .before .loop .inv .1) (search needs) (cc)))
     (λ c. take-end (c .before .loop .inv .1) (search needs)))

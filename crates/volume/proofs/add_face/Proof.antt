@@ -7,7 +7,7 @@ use Rattle.cut.specs.Cut.{cutOf}
 use Rattle.cut.proofs.Facts.{cut-room, cut-inside}
 use Rattle.volume.specs.Triangles.{isShort}
 use Rattle.volume.specs.Volume.{addTriple}
-use Rattle.volume.specs.Passes.{addFace}
+use Rattle.volume.specs.Steps.{addFace}
 use Rattle.volume.proofs.Passes.{front}
 use borrow.Author.Needs.{needs}
 use Rattle.volume.proofs.add_face.Statement.{statement}

@@ -4,7 +4,7 @@ use lib.Seq.{length-take-le}
 use Rattle.flat.specs.Points.{verticesOf}
 use Rattle.cut.specs.Cut.{cutOf}
 use Rattle.cut.proofs.Facts.{cut-room, cut-inside}
-use Rattle.volume.specs.Passes.{addFaceMoments}
+use Rattle.volume.specs.Steps.{addFaceMoments}
 use Rattle.volume.proofs.Passes.{front}
 use borrow.Author.Needs.{needs}
 use Rattle.volume.proofs.add_face_moments.Statement.{statement}

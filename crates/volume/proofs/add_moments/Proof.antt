@@ -3,7 +3,7 @@ use mathlib.Core.List.{[]}
 use Prim.Native.Nat.{_-_}
 use lib.ListN.{length}
 use Rattle.places.specs.Loops.{foldList}
-use Rattle.places.proofs.Loops.{Taking, take-start, take-turn, take-end}
+use Rattle.places.proofs.Loops.{Taking, take-start, take-next, take-end}
 use Rattle.flat.specs.Points.{verticesOf}
 use Rattle.volume.specs.Volume.{addMoment}
 use borrow.Author.Needs.{needs}
@@ -22,5 +22,5 @@ add-moments-spec =
     (λ c κs. c .before .before .before .before .pre .holds _ (search needs))
     (λ c. search needs)
     (λ c. search needs)
-    (λ c. (c .before .before .before .loop .inv .0, take-turn [] (c .before .before .before .loop .inv .1) (search needs) (cc)))
+    (λ c. (c .before .before .before .loop .inv .0, take-next [] (c .before .before .before .loop .inv .1) (search needs) (cc)))
     (λ c. take-end (c .before .loop .inv .1) (search needs)))

@@ -7,9 +7,8 @@ use Rattle.places.proofs.Stored.{length-threes}
 use Rattle.flat.specs.Points.{verticesOf}
 use Rattle.cell.specs.Faces.{facesOf}
 use Rattle.places.proofs.Lists.{each-slice}
-use Rattle.cell.proofs.Faces.{Facing, face-start, face-step, face-turn, face-end}
-use Rattle.volume.specs.Volume.{measuredOf}
-use Rattle.volume.specs.Passes.{addFace}
+use Rattle.cell.proofs.Faces.{Facing, face-start, face-step, face-next, face-end}
+use Rattle.volume.specs.Steps.{measuredOf, addFace}
 use Rattle.volume.proofs.Passes.{measured-all, added}
 use borrow.Author.Needs.{needs}
 use Rattle.volume.proofs.measure_in.Statement.{statement}
@@ -39,6 +38,6 @@ measure-in-spec =
     let f = slice (l .start) (c .before .before .before .before .corner .result) (c .before .before .before .before .before .before .before .before .before .before .before .args .corners .now) in
     let g : c .before .add-face .result ≡ addFace (verticesOf (c .before .before .before .before .before .before .before .before .before .before .before .args .coords .now)) (c .before .before .before .before .before .before .before .vertex-centroid .result) f (l .m) = cc in
     let a = added (verticesOf (c .before .before .before .before .before .before .before .before .before .before .before .args .coords .now)) (c .before .before .before .before .before .before .before .vertex-centroid .result) f (l .m) (c .before .add-face .result) g in
-    (l .inv .0, omega (arith, c .before .add-face .kept), omega arith, omega arith, face-turn (l .inv .4) (search needs) (c .before .before .before .before .corner .ensures .0) g))
+    (l .inv .0, omega (arith, c .before .add-face .kept), omega arith, omega arith, face-next (l .inv .4) (search needs) (c .before .before .before .before .corner .ensures .0) g))
     (λ c. search needs)
     (λ c. face-end (c .before .loop .inv .4) (search needs)))

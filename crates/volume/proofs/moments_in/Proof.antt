@@ -6,9 +6,9 @@ use lib.Seq.{length-slice}
 use Rattle.flat.specs.Points.{verticesOf}
 use Rattle.cell.specs.Faces.{facesOf}
 use Rattle.places.proofs.Lists.{each-slice}
-use Rattle.cell.proofs.Faces.{Facing, face-start, face-step, face-turn, face-end}
+use Rattle.cell.proofs.Faces.{Facing, face-start, face-step, face-next, face-end}
 use Rattle.volume.specs.Volume.{momentsOf}
-use Rattle.volume.specs.Passes.{addFaceMoments}
+use Rattle.volume.specs.Steps.{addFaceMoments}
 use Rattle.volume.proofs.Passes.{moments-all}
 use borrow.Author.Needs.{needs}
 use Rattle.volume.proofs.moments_in.Statement.{statement}
@@ -32,6 +32,6 @@ moments-in-spec =
     (λ c. search needs)
     (λ c. search needs)
     (λ c. let l = c .before .before .before .before .before .before .loop in
-    (l .inv .0, omega (arith, c .before .add-face-moments .kept), face-turn (l .inv .2) (search needs) (c .before .before .before .before .corner .ensures .0) (cc)))
+    (l .inv .0, omega (arith, c .before .add-face-moments .kept), face-next (l .inv .2) (search needs) (c .before .before .before .before .corner .ensures .0) (cc)))
     (λ c. search needs)
     (λ c. face-end (c .before .loop .inv .2) (search needs)))

@@ -1,5 +1,6 @@
 use mathlib.Core.Path.{ap}
-use Rattle.volume.specs.Volume.{volumeOf, measuredOf}
+use Rattle.volume.specs.Volume.{volumeOf}
+use Rattle.volume.specs.Steps.{measuredOf}
 use Rattle.volume.specs.declared.Measured.{Measured}
 use borrow.Author.Needs.{needs}
 use Rattle.volume.proofs.volume.Statement.{statement}

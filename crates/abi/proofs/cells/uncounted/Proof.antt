@@ -1,9 +1,18 @@
-use mathlib.Core.Path.{ap, sym, _∙_}
-use Rattle.geometry.specs.declared.Count.{Count}
-use Rattle.values.specs.Answers.{countCode}
+-- `abi::cells::uncounted` meets its contract: the entry is asked with no room for a triangle, so that its refusal comes first.
+use Rattle.abi.proofs.Told.{uncounted-is, uncounted-refused}
 use borrow.Author.Needs.{needs}
 use Rattle.abi.proofs.cells.uncounted.Statement.{statement}
 use Rattle.abi.proofs.cells.uncounted.Tie as tie
+
+returns : tie.Need-returns
+returns c =
+    let made : tie.After-triangles = search in
+    uncounted-is (made .triangles .ensures) (c .enum-told .given .1)
+
+returns-2 : tie.Need-returns-2
+returns-2 c =
+    let made : tie.After-triangles = search in
+    uncounted-refused (made .triangles .ensures) (c .before .why .given .1)
 
 pub uncounted-spec : {M : Type 1} → statement M
 uncounted-spec =
@@ -14,5 +23,5 @@ uncounted-spec =
     (λ c κs. search needs)
     (λ c. search needs)
     (λ c. search needs)
-    (λ c. ap (λ (x : Count). countCode x 0) (sym (c .enum-told .given .1) ∙ c .before .before .before .triangles .ensures .0))
-    (λ c. ap (λ (x : Count). countCode x 0) (sym (c .before .why .given .1) ∙ c .before .before .before .before .triangles .ensures .0)))
+    returns
+    returns-2)

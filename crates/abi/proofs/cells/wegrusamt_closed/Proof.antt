@@ -1,6 +1,10 @@
+-- `abi::cells::wegrusamt_closed` meets its contract: what the entry answers is put at the front of the lent list.
 use borrow.Author.Needs.{needs}
 use Rattle.abi.proofs.cells.wegrusamt_closed.Statement.{statement}
 use Rattle.abi.proofs.cells.wegrusamt_closed.Tie as tie
+
+returns : tie.Need-returns
+returns c = cc
 
 pub wegrusamt-closed-spec : {M : Type 1} → statement M
 wegrusamt-closed-spec =
@@ -9,4 +13,4 @@ wegrusamt-closed-spec =
     (λ c κs. search needs)
     (λ c κs. search needs)
     (λ c. search needs)
-    (λ c. (cc, cc)))
+    returns)

@@ -1,6 +1,10 @@
+-- `abi::cells::wegrusamt_contains` meets its contract: what the entry answers is put at the front of the lent list.
 use borrow.Author.Needs.{needs}
 use Rattle.abi.proofs.cells.wegrusamt_contains.Statement.{statement}
 use Rattle.abi.proofs.cells.wegrusamt_contains.Tie as tie
+
+returns : tie.Need-returns
+returns c = cc
 
 pub wegrusamt-contains-spec : {M : Type 1} → statement M
 wegrusamt-contains-spec =
@@ -9,4 +13,4 @@ wegrusamt-contains-spec =
     (λ c κs. search needs)
     (λ c κs. search needs)
     (λ c. search needs)
-    (λ c. (cc, cc)))
+    returns)

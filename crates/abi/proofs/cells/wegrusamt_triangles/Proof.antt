@@ -1,24 +1,37 @@
-use Rattle.geometry.specs.Answers.{countOr, faceTriangles}
-use Rattle.refusals.specs.Refusals.{trianglesRefusal}
-use Rattle.values.specs.Answers.{roomBeside}
-use mathlib.Core.Path.{_≡_}
+-- `abi::cells::wegrusamt_triangles` meets its contract: without a place for the count nothing is written, and else the entry writes the
+-- triangles and the count is put beside them.
 use native.Mathlib.Omega.{arith}
-use lib.ListN.{length}
-use borrow.Author.Tests.{lt-ltb, le-ltb}
-use Rattle.values.proofs.Answers.{count-kept}
+use Rattle.abi.proofs.Told.{triangles-short, triangles-long}
 use borrow.Author.Needs.{needs}
 use Rattle.abi.proofs.cells.wegrusamt_triangles.Statement.{statement}
 use Rattle.abi.proofs.cells.wegrusamt_triangles.Tie as tie
+
+returns : tie.Need-returns
+returns c =
+    let start : tie.Start = search in
+    let args = start .args in
+    let at : tie.Then1 = search in
+    triangles-short (args .coords .now) (args .corners .now) (args .ends .now) (args .face) (args .out .now) (args .count .now)
+    (at .if1 .taken) (c .uncounted .ensures)
+
+returns-2 : tie.Need-returns-2
+returns-2 c =
+    let start : tie.Start = search in
+    let args = start .args in
+    let at : tie.Else1 = search in
+    let made : tie.After-triangles = search in
+    let put : tie.After-put-count = search in
+    triangles-long (args .coords .now) (args .corners .now) (args .ends .now) (args .face) (args .out .now) (args .count .now)
+    (omega (arith, at .if1 .left)) (made .triangles .ensures) (put .put-count .ensures)
 
 pub wegrusamt-triangles-spec : {M : Type 1} → statement M
 wegrusamt-triangles-spec =
     tie.close
     (tie.spec
     (λ c κs. search needs)
-    (λ c. let z : length (c .before .before .before .before .before .before .args .count .now) ≡ 0 = omega (arith, c .before .if1 .taken) in
-    (rw z (cc), (count-kept (countOr (trianglesRefusal (c .before .before .before .before .before .before .args .coords .now) (c .before .before .before .before .before .before .args .corners .now) (c .before .before .before .before .before .before .args .ends .now) (c .before .before .before .before .before .before .args .face) (roomBeside (c .before .before .before .before .before .before .args .count .now) (length (c .before .before .before .before .before .before .args .out .now)))) (length (faceTriangles (c .before .before .before .before .before .before .args .coords .now) (c .before .before .before .before .before .before .args .corners .now) (c .before .before .before .before .before .before .args .ends .now) (c .before .before .before .before .before .before .args .face)))) (c .before .before .before .before .before .before .args .count .now) (c .before .if1 .taken), rw (lt-ltb (length (c .before .before .before .before .before .before .args .count .now)) 1 (c .before .if1 .taken)))))
+    returns
     (λ c κs. search needs)
     (λ c κs. search needs)
     (λ c. search needs)
     (λ c. search needs)
-    (λ c. (rw (le-ltb (length (c .before .before .before .before .before .before .before .before .before .before .before .before .args .count .now)) 1 (c .before .before .before .before .before .before .before .if1 .left)) (cc), (rw (le-ltb (length (c .before .before .before .before .before .before .before .before .before .before .before .before .args .count .now)) 1 (c .before .before .before .before .before .before .before .if1 .left)) (cc), rw (le-ltb (length (c .before .before .before .before .before .before .before .before .before .before .before .before .args .count .now)) 1 (c .before .before .before .before .before .before .before .if1 .left)) (cc)))))
+    returns-2)

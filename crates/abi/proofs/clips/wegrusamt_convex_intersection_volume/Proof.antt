@@ -1,7 +1,16 @@
-use Rattle.values.proofs.WorkLists.{measured-into}
+-- `abi::clips::wegrusamt_convex_intersection_volume` meets its contract: the measure is put into its list, and the work lists are as
+-- the entry leaves them.
+use Rattle.abi.proofs.Told.{measured-by}
 use borrow.Author.Needs.{needs}
 use Rattle.abi.proofs.clips.wegrusamt_convex_intersection_volume.Statement.{statement}
 use Rattle.abi.proofs.clips.wegrusamt_convex_intersection_volume.Tie as tie
+
+returns : tie.Need-returns
+returns c =
+    let start : tie.Start = search in
+    let measured : tie.After-convex-intersection-volume = search in
+    let put : tie.After-put-number = search in
+    measured-by (measured .convex-intersection-volume .ensures) (start .args .out .now) (put .put-number .ensures)
 
 pub wegrusamt-convex-intersection-volume-spec : {M : Type 1} → statement M
 wegrusamt-convex-intersection-volume-spec =
@@ -12,4 +21,4 @@ wegrusamt-convex-intersection-volume-spec =
     (λ c. search needs)
     (λ c. search needs)
     (λ c. search needs)
-    (λ c. measured-into (c .before .before .before .before .before .before .before .before .convex-intersection-volume .ensures) (c .before .before .put-number .ensures .0) (c .before .before .put-number .ensures .1)))
+    returns)

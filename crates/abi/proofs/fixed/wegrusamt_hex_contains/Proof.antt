@@ -1,16 +1,35 @@
-use Rattle.abi.proofs.Shapes.{truth-refused, truth-passed}
+-- `abi::fixed::wegrusamt_hex_contains` meets its contract: a list of another length is refused, and else the corners are read one by one.
+use mathlib.Core.Path.{_∙_}
+use Rattle.abi.proofs.Told.{shape-refused, shape-passed}
 use borrow.Author.Needs.{needs}
 use Rattle.abi.proofs.fixed.wegrusamt_hex_contains.Statement.{statement}
 use Rattle.abi.proofs.fixed.wegrusamt_hex_contains.Tie as tie
+
+returns : tie.Need-returns
+returns c =
+    let start : tie.Start = search in
+    shape-refused 24 (start .args .p .now) _ _ (start .args .out .now) (c .if1 .taken)
+
+returns-2 : tie.Need-returns-2
+returns-2 c =
+    let start : tie.Start = search in
+    let at : tie.Else1 = search in
+    let corners : tie.After-eight = search in
+    let inside : tie.After-hex-contains = search in
+    let bit : tie.After-one-if = search in
+    let put : tie.After-put-counts = search in
+    shape-passed 24 (start .args .p .now) _ _ (start .args .out .now) (at .if1 .left)
+    (rw (corners .eight .ensures) at (rw (inside .hex-contains .ensures) at (rw (bit .one-if .ensures) at (put .put-counts .ensures))))
 
 pub wegrusamt-hex-contains-spec : {M : Type 1} → statement M
 wegrusamt-hex-contains-spec =
     tie.close
     (tie.spec
-    (λ c. truth-refused 24 (c .before .before .before .args .p .now) _ _ (c .if1 .taken))
-    (λ c κs. search needs)
+    returns
     (λ c κs. search needs)
     (λ c κs. search needs)
     (λ c κs. search needs)
     (λ c. search needs)
-    (λ c. truth-passed 24 (c .before .before .before .before .before .before .before .before .before .before .args .p .now) _ _ _ _ (c .before .before .before .before .before .before .before .if1 .left) (cc) (cc)))
+    (λ c κs. search needs)
+    (λ c. search needs)
+    returns-2)

@@ -1,20 +1,36 @@
-use native.Mathlib.Omega.{arith}
-use Rattle.places.proofs.Stored.{length-threes}
-use Rattle.abi.proofs.Shapes.{number-refused, number-passed}
+-- `abi::fixed::wegrusamt_tet_volume` meets its contract: a list of another length is refused, and else the corners are read one by one.
+use Rattle.abi.proofs.Told.{shape-refused, shape-passed}
 use borrow.Author.Needs.{needs}
 use Rattle.abi.proofs.fixed.wegrusamt_tet_volume.Statement.{statement}
 use Rattle.abi.proofs.fixed.wegrusamt_tet_volume.Tie as tie
+
+returns : tie.Need-returns
+returns c =
+    let start : tie.Start = search in
+    shape-refused 12 (start .args .p .now) _ (start .args .out .now) _ (c .if1 .taken)
+
+returns-2 : tie.Need-returns-2
+returns-2 c =
+    let start : tie.Start = search in
+    let at : tie.Else1 = search in
+    let corners : tie.After-four = search in
+    let volume : tie.After-tet-volume = search in
+    let put : tie.After-put = search in
+    shape-passed 12 (start .args .p .now) _ (start .args .out .now) _ (at .if1 .left)
+    (rw (corners .four .ensures) at (rw (volume .tet-volume .ensures) at (put .put .ensures)))
 
 pub wegrusamt-tet-volume-spec : {M : Type 1} → statement M
 wegrusamt-tet-volume-spec =
     tie.close
     (tie.spec
-    (λ c. number-refused 12 (c .before .before .before .args .p .now) _ _ (c .if1 .taken))
-    (λ c κs. omega (arith, c .if1 .left, length-threes (c .before .before .before .args .p .now)))
-    (λ c κs. omega (arith, c .before .if1 .left, length-threes (c .before .before .before .before .args .p .now)))
-    (λ c κs. omega (arith, c .before .before .if1 .left, length-threes (c .before .before .before .before .before .args .p .now)))
-    (λ c κs. omega (arith, c .before .before .before .if1 .left, length-threes (c .before .before .before .before .before .before .args .p .now)))
-    (λ c κs. search needs)
+    returns
     (λ c κs. search needs)
     (λ c. search needs)
-    (λ c. number-passed 12 (c .before .before .before .before .before .before .before .before .before .before .before .before .args .p .now) _ _ _ _ (c .before .before .before .before .before .before .before .before .before .if1 .left) (cc) (cc)))
+    (λ c. search needs)
+    (λ c. search needs)
+    (λ c. search needs)
+    (λ c κs. search needs)
+    (λ c. search needs)
+    (λ c κs. search needs)
+    (λ c. search needs)
+    returns-2)

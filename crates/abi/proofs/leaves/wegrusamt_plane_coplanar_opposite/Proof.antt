@@ -1,8 +1,10 @@
-use mathlib.Core.Path.{ap, _∙_}
-use Rattle.values.specs.Answers.{one}
+-- `abi::leaves::wegrusamt_plane_coplanar_opposite` meets its contract: the answer of the entry, as 1 or 0.
 use borrow.Author.Needs.{needs}
 use Rattle.abi.proofs.leaves.wegrusamt_plane_coplanar_opposite.Statement.{statement}
 use Rattle.abi.proofs.leaves.wegrusamt_plane_coplanar_opposite.Tie as tie
+
+returns : tie.Need-returns
+returns c = cc
 
 pub wegrusamt-plane-coplanar-opposite-spec : {M : Type 1} → statement M
 wegrusamt-plane-coplanar-opposite-spec =
@@ -10,4 +12,4 @@ wegrusamt-plane-coplanar-opposite-spec =
     (tie.spec
     (λ c κs. search needs)
     (λ c κs. search needs)
-    (λ c. c .bit .ensures ∙ ap one (c .before .plane-coplanar-opposite .ensures)))
+    returns)

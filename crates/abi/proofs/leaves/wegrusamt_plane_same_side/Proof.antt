@@ -1,8 +1,10 @@
-use mathlib.Core.Path.{ap, _∙_}
-use Rattle.values.specs.Answers.{one}
+-- `abi::leaves::wegrusamt_plane_same_side` meets its contract: the answer of the entry, as 1 or 0.
 use borrow.Author.Needs.{needs}
 use Rattle.abi.proofs.leaves.wegrusamt_plane_same_side.Statement.{statement}
 use Rattle.abi.proofs.leaves.wegrusamt_plane_same_side.Tie as tie
+
+returns : tie.Need-returns
+returns c = cc
 
 pub wegrusamt-plane-same-side-spec : {M : Type 1} → statement M
 wegrusamt-plane-same-side-spec =
@@ -10,4 +12,4 @@ wegrusamt-plane-same-side-spec =
     (tie.spec
     (λ c κs. search needs)
     (λ c κs. search needs)
-    (λ c. c .bit .ensures ∙ ap one (c .before .plane-same-side .ensures)))
+    returns)

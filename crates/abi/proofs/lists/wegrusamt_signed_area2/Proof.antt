@@ -1,6 +1,10 @@
+-- `abi::lists::wegrusamt_signed_area2` meets its contract: what the entry answers is put at the front of the lent list.
 use borrow.Author.Needs.{needs}
 use Rattle.abi.proofs.lists.wegrusamt_signed_area2.Statement.{statement}
 use Rattle.abi.proofs.lists.wegrusamt_signed_area2.Tie as tie
+
+returns : tie.Need-returns
+returns c = cc
 
 pub wegrusamt-signed-area2-spec : {M : Type 1} → statement M
 wegrusamt-signed-area2-spec =
@@ -9,4 +13,4 @@ wegrusamt-signed-area2-spec =
     (λ c κs. search needs)
     (λ c κs. search needs)
     (λ c. search needs)
-    (λ c. (cc, cc)))
+    returns)

@@ -1,6 +1,10 @@
+-- `abi::lists::wegrusamt_vertex_centroid` meets its contract: what the entry answers is put at the front of the lent list.
 use borrow.Author.Needs.{needs}
 use Rattle.abi.proofs.lists.wegrusamt_vertex_centroid.Statement.{statement}
 use Rattle.abi.proofs.lists.wegrusamt_vertex_centroid.Tie as tie
+
+returns : tie.Need-returns
+returns c = cc
 
 pub wegrusamt-vertex-centroid-spec : {M : Type 1} → statement M
 wegrusamt-vertex-centroid-spec =
@@ -9,4 +13,4 @@ wegrusamt-vertex-centroid-spec =
     (λ c κs. search needs)
     (λ c κs. search needs)
     (λ c. search needs)
-    (λ c. (cc, cc)))
+    returns)

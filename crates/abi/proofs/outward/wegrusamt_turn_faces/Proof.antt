@@ -1,5 +1,6 @@
 -- `abi::outward::wegrusamt_turn_faces` meets its contract: where `out` is too short only the refusal is asked, else the entry promises all.
-use Rattle.abi.proofs.Turned.{short-refused, short-room, long}
+use native.Mathlib.Omega.{arith}
+use Rattle.abi.proofs.Told.{turn-short, turn-long}
 use borrow.Author.Needs.{needs}
 use Rattle.abi.proofs.outward.wegrusamt_turn_faces.Statement.{statement}
 use Rattle.abi.proofs.outward.wegrusamt_turn_faces.Tie as tie
@@ -8,34 +9,32 @@ returns : tie.Need-returns
 returns c =
     let start : tie.Start = search in
     let args = start .args in
-    let found = c .before .turn-refusal in
-    short-refused (args .coords .now) (args .corners .now) (args .ends .now) (args .out .now) (found .ensures) (c .if2 .taken)
+    let at : tie.Then1 = search in
+    let asked : tie.After-can-turn = search in
+    let code : tie.After-untold = search in
+    turn-short (args .coords .now) (args .corners .now) (args .ends .now) (args .out .now) (at .if1 .taken) (asked .can-turn .ensures)
+    (code .untold .ensures)
 
 returns-2 : tie.Need-returns-2
 returns-2 c =
     let start : tie.Start = search in
     let args = start .args in
-    let at : tie.Then1 = search in
-    let found = c .before .turn-refusal in
-    short-room (args .coords .now) (args .corners .now) (args .ends .now) (args .out .now) (found .ensures) (c .if2 .left) (at .if1 .taken)
-
-returns-3 : tie.Need-returns-3
-returns-3 c =
-    let start : tie.Start = search in
-    let args = start .args in
     let at : tie.Else1 = search in
     let turned : tie.After-turn-faces = search in
     let put : tie.After-put-count = search in
-    long (args .coords .now) (args .corners .now) (args .ends .now) (args .out .now) (at .if1 .left) (turned .turn-faces .ensures)
-    (put .put-count .ensures .0) (put .put-count .ensures .1)
+    turn-long (args .coords .now) (args .corners .now) (args .ends .now) (args .out .now) (omega (arith, at .if1 .left))
+    (turned .turn-faces .ensures) (put .put-count .ensures)
 
 pub wegrusamt-turn-faces-spec : {M : Type 1} → statement M
 wegrusamt-turn-faces-spec =
     tie.close
     (tie.spec
-    (λ c κs. search needs) (λ c. search needs)
-    returns
+    (λ c κs. search needs)
+    (λ c κs. search needs)
     (λ c. search needs)
-    returns-2
-    (λ c κs. search needs) (λ c κs. search needs) (λ c. search needs) (λ c. search needs)
-    returns-3)
+    returns
+    (λ c κs. search needs)
+    (λ c κs. search needs)
+    (λ c. search needs)
+    (λ c. search needs)
+    returns-2)

@@ -2,9 +2,10 @@ use mathlib.Core.Path.{_≡_, refl, sym}
 use Prim.Native.Nat.{_-_}
 use lib.ListN.{length}
 use lib.Ieee.{div, ofBits, neg}
-use Rattle.places.proofs.Loops.{Taking, take-start, take-turn, take-end}
+use Rattle.places.proofs.Loops.{Taking, take-start, take-next, take-end}
 use Rattle.places.proofs.Stored.{length-threes}
-use Rattle.flat.specs.Points.{verticesOf, widenOf, boundsOf, Numbers}
+use Rattle.flat.specs.Points.{verticesOf, widenOf, boundsOf}
+use Rattle.flat.specs.Steps.{Numbers}
 use Rattle.flat.proofs.Boxes.{numbers-start, numbers-widened}
 use mathlib.Core.List.{[]}
 use borrow.Author.Needs.{needs}
@@ -23,5 +24,5 @@ bounds-spec =
     (λ c κs. search needs)
     (λ c. search needs)
     (λ c. search needs)
-    (λ c. (c .before .before .before .loop .inv .0, take-turn [] (c .before .before .before .loop .inv .1) (search needs) (cc), numbers-widened _ (c .before .before .before .loop .inv .2) (c .widen3 .ensures)))
+    (λ c. (c .before .before .before .loop .inv .0, take-next [] (c .before .before .before .loop .inv .1) (search needs) (cc), numbers-widened _ (c .before .before .before .loop .inv .2) (c .widen3 .ensures)))
     (λ c. take-end (c .before .loop .inv .1) (search needs)))

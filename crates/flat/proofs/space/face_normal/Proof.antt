@@ -3,7 +3,7 @@ use mathlib.Core.List.{[]}
 use Prim.Native.Nat.{_-_}
 use native.Mathlib.Omega.{arith}
 use lib.ListN.{length}
-use Rattle.places.proofs.Walks.{Walking, walk-start, walk-turn, walk-end}
+use Rattle.places.proofs.Walks.{Walking, walk-start, walk-next, walk-end}
 use Rattle.flat.specs.Points.{verticesOf, cornersOf}
 use Rattle.flat.specs.Flat.{newellSide, newellOf}
 use Rattle.flat.proofs.Corners.{length-corners, no-corners}
@@ -25,6 +25,6 @@ face-normal-spec =
     (λ c κs. search needs)
     (λ c. search needs)
     (λ c. search needs)
-    (λ c. let e = length-corners (verticesOf (c .before .before .before .before .before .before .before .before .args .coords .now)) (c .before .before .before .before .before .before .before .before .args .face .now) in (c .before .before .before .loop .inv .0, walk-turn [] (c .before .before .before .loop .inv .1) (omega arith) (c .before .vertex-at2 .ensures) (cc)))
+    (λ c. let e = length-corners (verticesOf (c .before .before .before .before .before .before .before .before .args .coords .now)) (c .before .before .before .before .before .before .before .before .args .face .now) in (c .before .before .before .loop .inv .0, walk-next [] (c .before .before .before .loop .inv .1) (omega arith) (c .before .vertex-at2 .ensures) (cc)))
     (λ c κs. search needs)
     (λ c. let e = length-corners (verticesOf (c .before .before .before .before .before .before .before .args .coords .now)) (c .before .before .before .before .before .before .before .args .face .now) in walk-end (c .before .before .loop .inv .1) (omega arith) (c .newell-side2 .ensures)))

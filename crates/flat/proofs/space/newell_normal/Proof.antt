@@ -1,7 +1,7 @@
 use mathlib.Core.Path.{_≡_, refl, sym}
 use Prim.Native.Nat.{_-_}
 use lib.ListN.{length}
-use Rattle.places.proofs.Loops.{Rounding, round-start, round-turn, round-end}
+use Rattle.places.proofs.Loops.{Rounding, round-start, round-next, round-end}
 use Rattle.places.proofs.Stored.{length-threes}
 use Rattle.flat.specs.Points.{verticesOf}
 use Rattle.flat.specs.Flat.{newellSide, newellOf}
@@ -24,5 +24,5 @@ newell-normal-spec =
     (λ c κs. search needs)
     (λ c. search needs)
     (λ c. search needs)
-    (λ c. (c .before .before .before .before .before .loop .inv .0, round-turn [] (c .before .before .before .before .before .loop .inv .1) (search needs) (cc)))
+    (λ c. (c .before .before .before .before .before .loop .inv .0, round-next [] (c .before .before .before .before .before .loop .inv .1) (search needs) (cc)))
     (λ c. round-end (c .before .loop .inv .1) (search needs)))

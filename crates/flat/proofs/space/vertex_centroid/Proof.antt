@@ -3,7 +3,7 @@ use Prim.Native.Nat.{_-_, _≤_}
 use lib.ListN.{length}
 use native.Mathlib.Omega.{arith}
 use Rattle.places.specs.Loops.{foldList}
-use Rattle.places.proofs.Loops.{Taking, take-start, take-turn, take-end}
+use Rattle.places.proofs.Loops.{Taking, take-start, take-next, take-end}
 use Rattle.places.proofs.Stored.{length-threes}
 use Rattle.floats.specs.F64.{zero64}
 use Rattle.flat.specs.Points.{pointBy, verticesOf, plusOf, centroidOf}
@@ -24,7 +24,7 @@ vertex-centroid-spec =
     (λ c κs. search needs)
     (λ c. search needs)
     (λ c. search needs)
-    (λ c. (c .before .before .before .loop .inv .0, c .before .before .before .loop .inv .1, take-turn [] (c .before .before .before .loop .inv .2) (search needs) (cc)))
+    (λ c. (c .before .before .before .loop .inv .0, c .before .before .before .loop .inv .1, take-next [] (c .before .before .before .loop .inv .2) (search needs) (cc)))
     (λ c. search needs)
     (λ c κs. search needs)
     (λ c κs. search needs)

@@ -1,22 +1,57 @@
-use mathlib.Core.Path.{sym, _∙_, ap}
+-- `geometry::clipping::convex_intersection_volume` meets its contract: cells that pass the checks are sound and have no empty face, the
+-- work lists are short enough, and the room clears them.
+use mathlib.Core.Path.{sym, _∙_}
 use Rattle.refusals.proofs.Refusals.{overlap-known}
-use Rattle.geometry.specs.Clipping.{cellsOverlap, measuredNumber}
-use Rattle.geometry.proofs.WorkLists.{measure-refused, measure-passed}
+use Rattle.geometry.specs.Clipping.{overlapAnswer}
+use Rattle.geometry.specs.declared.Number.{Number}
+use Rattle.geometry.proofs.Answers.{refused}
+use Rattle.geometry.proofs.WorkLists.{measure-passed}
 use borrow.Author.Needs.{needs}
 use Rattle.geometry.proofs.clipping.convex_intersection_volume.Statement.{statement}
 use Rattle.geometry.proofs.clipping.convex_intersection_volume.Tie as tie
 
+returns : tie.Need-returns
+unfolding overlapAnswer
+returns c =
+    let start : tie.Start = search in
+    let found : tie.After-overlap-refusal = search in
+    let at : tie.Then1 = search in
+    refused (found .overlap-refusal .ensures) (λ why. (Number.Refused why, start .args .first .now, start .args .second .now)) _
+    (at .if1 .taken)
+
+convex-intersection-volume-requires : tie.Need-convex-intersection-volume-requires
+convex-intersection-volume-requires c κs =
+    let start : tie.Start = search in
+    let args = start .args in
+    let at : tie.Else1 = search in
+    let passed = sym (at .before .overlap-refusal .ensures) ∙ at .if1 .left in
+    let known = overlap-known (args .coords .now) (args .corners .now) (args .ends .now)
+    (args .coords2 .now) (args .corners2 .now) (args .ends2 .now) (args .first .now) (args .second .now) passed in (
+      record { sound = known .one .sound; no-empty = known .one .solid },
+      (record { sound = known .other .sound; no-empty = known .other .solid }, (known .first-few, known .second-few)),
+    )
+
+returns-2 : tie.Need-returns-2
+unfolding overlapAnswer
+returns-2 c =
+    let start : tie.Start = search in
+    let at : tie.Else1 = search in
+    let volume : tie.After-convex-intersection-volume = search in
+    let made = volume .convex-intersection-volume .ensures in
+    let answer : tie.After-number = search in
+    measure-passed _ (start .args .first .now) (start .args .second .now) (at .before .overlap-refusal .ensures) (at .if1 .left)
+    (answer .number .ensures) (made .0) (made .1 .0) (made .1 .1)
+
 pub convex-intersection-volume-spec : {M : Type 1} → statement M
-unfolding cellsOverlap
 convex-intersection-volume-spec =
     tie.close
     (tie.spec
     (λ c κs. search needs)
     (λ c. search needs)
     (λ c. search needs)
-    (λ c. measure-refused (c .before .overlap-refusal .ensures) (c .if1 .taken))
-    (λ c κs. let a = c .before .before .before .before .before .before .before .before .before .before .before .before .before .before .args in let s = overlap-known (a .coords .now) (a .corners .now) (a .ends .now) (a .coords2 .now) (a .corners2 .now) (a .ends2 .now) (a .first .now) (a .second .now) (sym (c .before .before .before .overlap-refusal .ensures) ∙ c .before .before .if1 .left) in (record { sound = s .one .sound; no-empty = s .one .solid }, (record { sound = s .other .sound; no-empty = s .other .solid }, (s .first-few, s .second-few))))
+    returns
+    convex-intersection-volume-requires
     (λ c κs. search needs)
     (λ c. search needs)
     (λ c. search needs)
-    (λ c. measure-passed (c .before .before .before .before .before .before .before .before .before .overlap-refusal .ensures) (c .before .before .before .before .before .before .before .before .if1 .left) (c .measured-number .ensures ∙ ap measuredNumber (c .before .before .before .before .before .convex-intersection-volume .ensures .0)) (c .before .before .before .before .before .convex-intersection-volume .ensures .1 .0) (c .before .before .before .before .before .convex-intersection-volume .ensures .1 .1)))
+    returns-2)

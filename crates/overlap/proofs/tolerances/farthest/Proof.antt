@@ -3,10 +3,10 @@ use mathlib.Core.List.{[]}
 use Prim.Native.Nat.{_-_}
 use lib.ListN.{length}
 use Rattle.places.specs.Loops.{foldList}
-use Rattle.places.proofs.Loops.{Taking, take-start, take-turn, take-end}
+use Rattle.places.proofs.Loops.{Taking, take-start, take-next, take-end}
 use Rattle.places.proofs.Stored.{length-threes}
 use Rattle.flat.specs.Points.{verticesOf}
-use Rattle.overlap.specs.Tolerances.{fartherSquare}
+use Rattle.overlap.specs.Steps.{fartherSquare}
 use borrow.Author.Needs.{needs}
 use Rattle.overlap.proofs.tolerances.farthest.Statement.{statement}
 use Rattle.overlap.proofs.tolerances.farthest.Tie as tie
@@ -24,5 +24,5 @@ farthest-spec =
     (λ c κs. search needs)
     (λ c. search needs)
     (λ c. search needs)
-    (λ c. (c .before .before .before .before .loop .inv .0, take-turn [] (c .before .before .before .before .loop .inv .1) (search needs) (cc)))
+    (λ c. (c .before .before .before .before .loop .inv .0, take-next [] (c .before .before .before .before .loop .inv .1) (search needs) (cc)))
     (λ c. take-end (c .before .loop .inv .1) (search needs)))

@@ -3,7 +3,7 @@ use Prim.Native.Nat.{_/_, _-_}
 use native.Mathlib.Omega.{arith}
 use lib.ListN.{length}
 use Rattle.report.specs.Report.{heldOf, lentOf}
-use Rattle.report.proofs.Turns.{Goes, goes-start, after-step, stored-step, lines-step}
+use Rattle.report.proofs.Taken.{Goes, goes-start, after-step, stored-step, lines-step}
 use Rattle.report.proofs.block.take_block.Statement.{statement}
 use Rattle.report.proofs.block.take_block.Tie as tie
 

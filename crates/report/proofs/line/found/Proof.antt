@@ -22,4 +22,4 @@ found-spec =
     (λ c. search needs)
     (λ c. search needs)
     (λ c κs. search needs)
-    (λ c. simp sub-zero at (c .survey-cell .ensures)))
+    (λ c. simp sub-zero at (c .survey .ensures)))

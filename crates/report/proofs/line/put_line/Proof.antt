@@ -1,6 +1,6 @@
 use Rattle.report.specs.Report.{heldOf}
 use Rattle.geometry.specs.declared.Surveyed.the-variants.{Is, Refused}
-use Rattle.report.proofs.Turns.{line-refused, line-found}
+use Rattle.report.proofs.Taken.{line-refused, line-found}
 use borrow.Author.Needs.{needs}
 use Rattle.report.proofs.line.put_line.Statement.{statement}
 use Rattle.report.proofs.line.put_line.Tie as tie

@@ -1,20 +1,47 @@
-use native.Mathlib.Omega.{arith}
+-- `report::stream::finish` meets its contract: in each branch what is put is the tail, and the tail makes the report whole.
 use mathlib.Core.Path.{refl}
+use mathlib.Core.List.{[]}
+use native.Mathlib.Omega.{arith}
 use borrow.Author.Tests.{eq-eqb, ne-eqb}
 use Rattle.lines.specs.Lines.{tailLine}
+use Rattle.report.proofs.Split.{finished}
 use borrow.Author.Needs.{needs}
 use Rattle.report.proofs.stream.finish.Statement.{statement}
 use Rattle.report.proofs.stream.finish.Tie as tie
 
-pub finish-spec : {M : Type 1} → statement M
+returns : tie.Need-returns
 unfolding tailLine
+returns c =
+    let start : tie.Start = search in
+    let args = start .args in
+    let at : tie.Then1 = search in
+    let put = c .before .before .put-tail .ensures in
+    finished (args .t) (args .have) (rw (at .if1 .taken)) put (omega (arith, put .ends))
+
+returns-2 : tie.Need-returns-2
+returns-2 c =
+    let start : tie.Start = search in
+    let args = start .args in
+    let at : tie.Else1 = search in
+    finished {xs = []} (args .t) (args .have) (rw (at .if1 .left, eq-eqb _ _ (c .if2 .taken)))
+    (record { holds = refl; ends = refl }) (omega arith)
+
+returns-3 : tie.Need-returns-3
+unfolding tailLine
+returns-3 c =
+    let start : tie.Start = search in
+    let args = start .args in
+    let at : tie.Else1 = search in
+    let other : tie.Else2 = search in
+    let put = c .before .before .put-tail2 .ensures in
+    finished (args .t) (args .have) (rw (at .if1 .left, ne-eqb _ _ (other .if2 .left))) put (omega (arith, put .ends))
+
+pub finish-spec : {M : Type 1} → statement M
 finish-spec =
     tie.close
     (tie.spec
-    (λ c κs. search needs)
-    (λ c. search needs)
-    (λ c. (rw (c .before .before .before .before .if1 .taken) (c .before .before .put-tail .ensures), omega (arith, c .before .before .put-tail .ensures .ends)))
-    (λ c. (rw (c .before .if1 .left, eq-eqb _ _ (c .if2 .taken)) (record { holds = refl; ends = refl }), omega arith))
-    (λ c κs. search needs)
-    (λ c. search needs)
-    (λ c. (rw (c .before .before .before .before .before .if1 .left, ne-eqb _ _ (c .before .before .before .before .if2 .left)) (c .before .before .put-tail2 .ensures), omega (arith, c .before .before .put-tail2 .ensures .ends))))
+    (λ c κs. search needs) (λ c. search needs)
+    returns
+    returns-2
+    (λ c κs. search needs) (λ c. search needs)
+    returns-3)

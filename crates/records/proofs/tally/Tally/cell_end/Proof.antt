@@ -1,12 +1,12 @@
 use mathlib.Core.Path.{sym, _∙_}
 use borrow.Author.Tests.{not-true, not-false}
-use Rattle.records.specs.Tally.{cellEndOf, whyOf}
+use Rattle.records.specs.Tally.{cellEndTaken, whyOf}
 use borrow.Author.Needs.{needs}
 use Rattle.records.proofs.tally.Tally.cell_end.Statement.{statement}
 use Rattle.records.proofs.tally.Tally.cell_end.Tie as tie
 
 pub cell-end-spec : {M : Type 1} → statement M
-unfolding cellEndOf whyOf
+unfolding cellEndTaken whyOf
 cell-end-spec =
     tie.close
     (tie.spec

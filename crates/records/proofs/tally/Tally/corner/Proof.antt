@@ -2,14 +2,14 @@ use mathlib.Core.Path.{_≡_, ap, _∙_}
 use native.Mathlib.Omega.{arith}
 use lib.Dec.{ltb}
 use borrow.Author.Tests.{eq-eqb, ne-eqb}
-use Rattle.records.specs.Tally.{cornerOf, cornerWhy, cornerFine, refusedOf}
+use Rattle.records.specs.Tally.{cornerTaken, cornerWhy, cornerFine, refusedOf}
 use Rattle.records.proofs.Tests.{why-room, corner-fits}
 use borrow.Author.Needs.{needs}
 use Rattle.records.proofs.tally.Tally.corner.Statement.{statement}
 use Rattle.records.proofs.tally.Tally.corner.Tie as tie
 
 pub corner-spec : {M : Type 1} → statement M
-unfolding cornerOf
+unfolding cornerTaken
 corner-spec =
     tie.close
     (tie.spec

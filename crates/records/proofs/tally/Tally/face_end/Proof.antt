@@ -1,14 +1,14 @@
 use mathlib.Core.Path.{_≡_, ap, _∙_}
 use native.Mathlib.Omega.{arith}
 use borrow.Author.Tests.{eq-eqb, ne-eqb}
-use Rattle.records.specs.Tally.{faceEndOf, faceEndWhy, endFine, refusedOf}
+use Rattle.records.specs.Tally.{faceEndTaken, faceEndWhy, endFine, refusedOf}
 use Rattle.records.proofs.Tests.{why-room}
 use borrow.Author.Needs.{needs}
 use Rattle.records.proofs.tally.Tally.face_end.Statement.{statement}
 use Rattle.records.proofs.tally.Tally.face_end.Tie as tie
 
 pub face-end-spec : {M : Type 1} → statement M
-unfolding faceEndOf
+unfolding faceEndTaken
 face-end-spec =
     tie.close
     (tie.spec

@@ -1,14 +1,14 @@
 use mathlib.Core.Path.{_≡_, ap, _∙_}
 use native.Mathlib.Omega.{arith}
 use borrow.Author.Tests.{eq-eqb, ne-eqb}
-use Rattle.records.specs.Tally.{queryOf, queryWhy, refusedOf}
+use Rattle.records.specs.Tally.{queryTaken, queryWhy, refusedOf}
 use Rattle.records.proofs.Tests.{why-room}
 use borrow.Author.Needs.{needs}
 use Rattle.records.proofs.tally.Tally.query.Statement.{statement}
 use Rattle.records.proofs.tally.Tally.query.Tie as tie
 
 pub query-spec : {M : Type 1} → statement M
-unfolding queryOf
+unfolding queryTaken
 query-spec =
     tie.close
     (tie.spec

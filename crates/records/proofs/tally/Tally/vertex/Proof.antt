@@ -1,14 +1,14 @@
 use mathlib.Core.Path.{_≡_, ap, _∙_}
 use native.Mathlib.Omega.{arith}
 use borrow.Author.Tests.{eq-eqb, ne-eqb}
-use Rattle.records.specs.Tally.{vertexOf, vertexWhy, refusedOf}
+use Rattle.records.specs.Tally.{vertexTaken, vertexWhy, refusedOf}
 use Rattle.records.proofs.Tests.{why-room}
 use borrow.Author.Needs.{needs}
 use Rattle.records.proofs.tally.Tally.vertex.Statement.{statement}
 use Rattle.records.proofs.tally.Tally.vertex.Tie as tie
 
 pub vertex-spec : {M : Type 1} → statement M
-unfolding vertexOf
+unfolding vertexTaken
 vertex-spec =
     tie.close
     (tie.spec

@@ -1,0 +1,85 @@
+-- What a caller across the boundary is told, from what an entry answers and what is put into the lent lists.
+use mathlib.Core.Path.{_≡_, refl, sym, _∙_, ap}
+use mathlib.Core.Logic.{_≢_}
+use mathlib.Core.Bool.{Bool, true, false}
+use mathlib.Core.List.{List, [], _∷_}
+use Prim.Native.Nat.{ℕ, _≤_, _<_}
+use native.Mathlib.Omega.{arith}
+use lib.Dec.{ltb, eqb}
+use lib.ListN.{length}
+use lib.Ieee.{Float}
+use borrow.Author.Tests.{eq-eqb, ne-eqb, lt-ltb, le-ltb}
+use Rattle.places.specs.Loops.{pick}
+use Rattle.geometry.specs.declared.Number.{Number}
+use Rattle.geometry.specs.declared.Count.{Count}
+use Rattle.geometry.specs.declared.Done.{Done}
+use Rattle.geometry.specs.declared.Clipped.{Clipped}
+use Rattle.geometry.specs.Cells.{trianglesAnswer}
+use Rattle.geometry.specs.TurnFaces.{canTurnAnswer, TurnFacesGives}
+use Rattle.geometry.specs.Listed.{Listed, told, written, ofNumber, ofCount, ofDone, doneTold, ofShape, clippingTold, measureTold, trianglesTold}
+use Rattle.geometry.specs.Listed.{codeWithoutRoom, TurnFacesTold}
+
+abbrev Told : Type 0
+Told = ℕ × List Float × List ℕ
+
+-- ---- beside the work lists
+pub shown-by : {c d : Clipped × List Float × List Float} → c ≡ d → (shown : List ℕ) {t : ℕ × List ℕ × List Float × List Float}
+    → t ≡ clippingTold c shown → t ≡ clippingTold d shown
+shown-by e shown p = p ∙ ap (λ x. clippingTold x shown) e
+
+pub measured-by : {a : Number} {first second : List Float} {answer : Number × List Float × List Float} → (a, first, second) ≡ answer
+    → (out : List Float) {r : ℕ} {out′ : List Float} → told r out′ [] ≡ written (ofNumber a) out [] →
+    (r, out′, first, second) ≡ measureTold answer out
+measured-by e out p = rw (← e, ap (λ (t : Told). t .0) p, ap (λ (t : Told). t .1) p)
+
+-- ---- beside a list that is turned
+pub done-by : {L : Type 0} {a : Done} {list : L} {answer : Done × L} {r : ℕ} → (a, list) ≡ answer → told r [] [] ≡ written (ofDone a) [] []
+    → _≡_ {A = ℕ × L} (r, list) (doneTold answer)
+done-by e p = rw (← e, ap (λ (t : Told). t .0) p)
+
+-- ---- a fixed shape in one list
+module _ (n : ℕ) (p : List Float) (answer : Listed) (xs : List Float) (ns : List ℕ) where
+  pub shape-refused : length p ≢ n → told 1 xs ns ≡ written (ofShape n p answer) xs ns
+  shape-refused h = rw (ne-eqb (length p) n h)
+
+  pub shape-passed : {t : Told} → length p ≡ n → t ≡ written answer xs ns → t ≡ written (ofShape n p answer) xs ns
+  shape-passed h e = rw (eq-eqb (length p) n h) e
+
+-- ---- triangles
+pub uncounted-is : {L : Type 0} {a : Count} {list : L} {answer : Count × L} {n : ℕ} → (a, list) ≡ answer → a ≡ Count.Is n
+    → told 6 [] [] ≡ written (ofCount (answer .0)) [] []
+uncounted-is e q = rw (← e, q)
+
+pub uncounted-refused : {L : Type 0} {a : Count} {list : L} {answer : Count × L} {why : ℕ} → (a, list) ≡ answer → a ≡ Count.Refused why
+    → told why [] [] ≡ written (ofCount (answer .0)) [] []
+uncounted-refused e q = rw (← e, q)
+
+module _ (coords : List Float) (corners ends : List ℕ) (k : ℕ) (out : List (List ℕ)) where
+  pub triangles-short : (count : List ℕ) {r : ℕ} → length count < 1 → told r [] [] ≡ written (ofCount
+      (trianglesAnswer coords corners ends k [] .0)) [] []
+      → (r, out, count) ≡ trianglesTold coords corners ends k out count
+  triangles-short [] h e = rw (ap (λ (t : Told). t .0) e, ← ap (λ (t : Told). t .2) e)
+  triangles-short (x ∷ xs) h e = absurd (omega arith)
+
+  pub triangles-long : (count : List ℕ) {a : Count} {r : ℕ} {out′ : List (List ℕ)} {count′ : List ℕ} → 1 ≤ length count
+      → (a, out′) ≡ trianglesAnswer coords corners ends k out → told r [] count′ ≡ written (ofCount a) [] count
+      → (r, out′, count′) ≡ trianglesTold coords corners ends k out count
+  triangles-long count h e p = rw (le-ltb (length count) 1 h, ← e, ap (λ (t : Told). t .0) p, ap (λ (t : Told). t .2) p)
+
+-- ---- backward faces
+module _ (coords : List Float) (corners ends out : List ℕ) where
+  pub turn-short : {code : ℕ} {a : Done} → length out < 1 → a ≡ canTurnAnswer coords corners ends → code ≡ codeWithoutRoom a
+      → TurnFacesTold coords corners ends out code corners out
+  turn-short h e q = record {
+    count = Count.Is 0;
+    turns = λ f. absurd (let b : true ≡ false = sym (lt-ltb (length out) 1 h) ∙ f in let z : _≡_ {A = ℕ} 0 1 = cc in omega arith);
+    untold = λ _. (q ∙ ap codeWithoutRoom e, refl, refl);
+  }
+
+  pub turn-long : {r : Count} {after : List ℕ} {code : ℕ} {out′ : List ℕ} → 1 ≤ length out → TurnFacesGives coords corners ends r after
+      → told code [] out′ ≡ written (ofCount r) [] out → TurnFacesTold coords corners ends out code after out′
+  turn-long {r} h t p = record {
+    count = r;
+    turns = λ _. (t, p);
+    untold = λ f. absurd (let b : true ≡ false = sym f ∙ le-ltb (length out) 1 h in let z : _≡_ {A = ℕ} 0 1 = cc in omega arith);
+  }

@@ -1,0 +1,19 @@
+use native.Mathlib.Omega.{arith}
+use mathlib.Core.List.{[]}
+use Rattle.flat.specs.Points.{verticesOf}
+use Rattle.places.proofs.Stored.{length-threes}
+use Rattle.answer_lists.proofs.Corners.{taken-all}
+use Rattle.answer_lists.proofs.given.six.Statement.{statement}
+use Rattle.answer_lists.proofs.given.six.Tie as tie
+
+pub six-spec : {M : Type 1} → statement M
+six-spec =
+    tie.close
+    (tie.spec
+    (λ c κs. omega (arith, length-threes (c .before .args .p .now)))
+    (λ c κs. omega (arith, length-threes (c .before .before .args .p .now)))
+    (λ c κs. omega (arith, length-threes (c .before .before .before .args .p .now)))
+    (λ c κs. omega (arith, length-threes (c .before .before .before .before .args .p .now)))
+    (λ c κs. omega (arith, length-threes (c .before .before .before .before .before .args .p .now)))
+    (λ c κs. omega (arith, length-threes (c .before .before .before .before .before .before .args .p .now)))
+    (λ c. let w = taken-all [] 6 (verticesOf (c .before .before .before .before .before .before .before .args .p .now)) (omega (arith, length-threes (c .before .before .before .before .before .before .before .args .p .now))) in cc))

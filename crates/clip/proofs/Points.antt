@@ -1,0 +1,73 @@
+-- A clipping of an outline that has points never ends with an outline of 0 points: a plane that cuts leaves at least 3.
+use mathlib.Core.Bool.{Bool, true, false, not}
+use mathlib.Core.List.{List, [], _∷_}
+use Prim.Native.Nat.{ℕ, _<_}
+use native.Mathlib.Omega.{arith}
+use lib.Dec.{ltb, eqb}
+use lib.ListN.{length}
+use lib.Ieee.{Float}
+use Rattle.places.specs.Loops.{pick, countOf}
+use Rattle.flat.specs.Points.{Point}
+use Rattle.planes.specs.declared.Plane.{Plane}
+use Rattle.work_lists.specs.WorkLists.{Change, whole, gone, full, made, Outcome, nothing, noRoom, outline, afterwards, runOf, clippedOf}
+use Rattle.clip_step.specs.ClipStep.{trimmedBy}
+use Rattle.clip_step.specs.Doubled.{withoutDoubled}
+use Rattle.clip.specs.Clip.{beyond, cutChange, slice, planeChange, clipFaceOf}
+
+-- where a plane made another outline it has points, and where an outline is left it has
+pub data MadePoints : Change → Type 0 where
+  made-whole : MadePoints whole
+  made-gone : MadePoints gone
+  made-full : MadePoints full
+  made-some : {ps : List Point} → 0 < length ps → MadePoints (made ps)
+
+pub data LeftPoints : Outcome → Type 0 where
+  left-nothing : LeftPoints nothing
+  left-no-room : LeftPoints noRoom
+  left-some : {second : Bool} {ps : List Point} → 0 < length ps → LeftPoints (outline second ps)
+
+-- a test between two
+made-either : (b : Bool) {c d : Change} → MadePoints c → MadePoints d → MadePoints (pick b c d)
+made-either true h g = h
+made-either false h g = g
+
+pub left-either : (b : Bool) {o q : Outcome} → LeftPoints o → LeftPoints q → LeftPoints (pick b o q)
+left-either true h g = h
+left-either false h g = g
+
+-- ---- one plane
+under-three : (ps : List Point) → MadePoints (pick (ltb (length ps) 3) gone (made ps))
+under-three [] = made-gone
+under-three (p ∷ ps) = made-either (ltb (length (p ∷ ps)) 3) made-gone (made-some (omega arith))
+
+cut-points : (room : ℕ) (cut : List Point) → MadePoints (cutChange room cut)
+unfolding cutChange
+cut-points room cut = made-either (ltb room (length cut)) made-full (under-three (withoutDoubled cut))
+
+plane-points : (room : ℕ) (eps : Float) (plane : Plane) (ps : List Point) → MadePoints (planeChange room eps plane ps)
+unfolding planeChange
+plane-points room eps plane ps =
+    let out = countOf (beyond plane eps) ps in
+    let cut = cut-points room (trimmedBy plane eps ps) in
+    made-either (ltb (length ps) 3) made-gone (made-either (eqb out 0) made-whole (made-either (eqb out (length ps)) made-gone cut))
+
+-- ---- all planes, one after the other
+after-points : {c : Change} {same : Outcome} (next : List Point → Outcome)
+    → MadePoints c → LeftPoints same → ((ps : List Point) → 0 < length ps → LeftPoints (next ps)) → LeftPoints (afterwards c same next)
+after-points next made-whole s n = s
+after-points next made-gone s n = left-nothing
+after-points next made-full s n = left-no-room
+after-points next (made-some {ps = ps} h) s n = n ps h
+
+run-points : (room : ℕ) (eps : Float) (planes : List Plane) (second : Bool) (ps : List Point) → 0 < length ps
+    → LeftPoints (runOf (planeChange room eps) planes second ps)
+unfolding runOf
+run-points room eps [] second ps h = left-some h
+run-points room eps (plane ∷ planes) second ps h =
+    after-points (λ qs. runOf (planeChange room eps) planes (not second) qs) (plane-points room eps plane ps)
+    (run-points room eps planes second ps h) (λ qs g. run-points room eps planes (not second) qs g)
+
+pub clip-points : (room : ℕ) (eps : Float) (planes : List Plane) (ps : List Point) → 0 < length ps
+    → LeftPoints (clipFaceOf room eps planes ps)
+unfolding clipFaceOf clippedOf
+clip-points room eps planes ps h = left-either (ltb room (length ps)) left-no-room (run-points room eps planes false ps h)

@@ -1,0 +1,20 @@
+use Rattle.clip_step.specs.Doubled.{largestCoordinate}
+use borrow.Author.Needs.{needs}
+use Rattle.clip_step.proofs.doubled.largest_coordinate.Statement.{statement}
+use Rattle.clip_step.proofs.doubled.largest_coordinate.Tie as tie
+
+pub largest-coordinate-spec : {M : Type 1} → statement M
+unfolding largestCoordinate
+largest-coordinate-spec =
+    tie.close
+    (tie.spec
+    (λ c. search needs)
+    (λ c κs. search needs)
+    (λ c. search needs)
+    (λ c κs. search needs)
+    (λ c. search needs)
+    (λ c κs. search needs)
+    (λ c κs. search needs)
+    (λ c κs. search needs)
+    (λ c κs. search needs)
+    (λ c. cc))

@@ -1,0 +1,19 @@
+use mathlib.Core.Path.{refl, sym}
+use native.Mathlib.Omega.{arith}
+use lib.Seq.{set-out}
+use Rattle.places.proofs.Stored.{length-pairs}
+use Rattle.work_lists.proofs.Filling.{filled-one}
+use borrow.Author.Needs.{needs}
+use Rattle.clip_step.proofs.edge.push.Statement.{statement}
+use Rattle.clip_step.proofs.edge.push.Tie as tie
+
+pub push-spec : {M : Type 1} → statement M
+push-spec =
+    tie.close
+    (tie.spec
+    (λ c κs. omega (arith, length-pairs (c .before .before .before .args .s .now)))
+    (λ c. search needs)
+    (λ c. search needs)
+    (λ c. filled-one refl (c .before .before .put .ensures .0))
+    (λ c. search needs)
+    (λ c. filled-one refl (sym (set-out _ _ _ (omega (arith, length-pairs (c .before .before .args .s .now)))))))

@@ -1,0 +1,3 @@
+pub mod ClipStep
+pub mod Doubled
+pub mod Steps

@@ -1,0 +1,24 @@
+-- `geometry::can_turn` meets its contract: the refusal is the one that is asked for.
+use Rattle.geometry.specs.declared.Done.{Done}
+use Rattle.geometry.specs.TurnFaces.{canTurnAnswer}
+use mathlib.Core.Path.{refl}
+use Rattle.geometry.proofs.Answers.{refused, passed}
+use borrow.Author.Needs.{needs}
+use Rattle.geometry.proofs.can_turn.Statement.{statement}
+use Rattle.geometry.proofs.can_turn.Tie as tie
+
+returns : tie.Need-returns
+unfolding canTurnAnswer
+returns c = refused (c .before .turn-faces-refusal .ensures) Done.Refused _ (c .if1 .taken)
+
+returns-2 : tie.Need-returns-2
+unfolding canTurnAnswer
+returns-2 c = passed (c .before .turn-faces-refusal .ensures) _ (c .if1 .left) refl
+
+pub can-turn-spec : {M : Type 1} → statement M
+can-turn-spec =
+    tie.close
+    (tie.spec
+    (λ c κs. search needs)
+    returns
+    returns-2)

@@ -1,0 +1,20 @@
+use Rattle.geometry.specs.declared.Extent.{Extent}
+use Rattle.geometry.specs.Points.{listBoundsAnswer}
+use Rattle.geometry.proofs.Answers.{refused, passed}
+use borrow.Author.Needs.{needs}
+use Rattle.geometry.proofs.in_space.list_bounds.Statement.{statement}
+use Rattle.geometry.proofs.in_space.list_bounds.Tie as tie
+
+pub list-bounds-spec : {M : Type 1} → statement M
+unfolding listBoundsAnswer
+list-bounds-spec =
+    tie.close
+    (tie.spec
+    (λ c κs. search needs)
+    (λ c. refused (c .before .list-refusal .ensures) Extent.Refused _ (c .if1 .taken))
+    (λ c κs. search needs)
+    (λ c. search needs)
+    (λ c. search needs)
+    (λ c κs. search needs)
+    (λ c κs. search needs)
+    (λ c. passed (c .before .before .before .before .before .before .list-refusal .ensures) _ (c .before .before .before .before .before .if1 .left) (cc)))

@@ -1,0 +1,17 @@
+use Rattle.geometry.specs.declared.Place.{Place}
+use Rattle.geometry.specs.Points.{newellNormalAnswer}
+use Rattle.geometry.proofs.Answers.{refused, passed}
+use borrow.Author.Needs.{needs}
+use Rattle.geometry.proofs.in_space.newell_normal.Statement.{statement}
+use Rattle.geometry.proofs.in_space.newell_normal.Tie as tie
+
+pub newell-normal-spec : {M : Type 1} → statement M
+unfolding newellNormalAnswer
+newell-normal-spec =
+    tie.close
+    (tie.spec
+    (λ c κs. search needs)
+    (λ c. refused (c .before .list-refusal .ensures) Place.Refused _ (c .if1 .taken))
+    (λ c κs. search needs)
+    (λ c κs. search needs)
+    (λ c. passed (c .before .before .before .list-refusal .ensures) _ (c .before .before .if1 .left) (cc)))

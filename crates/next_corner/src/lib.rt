@@ -1,0 +1,147 @@
+// The choice of the corner that is cut off next.
+ghost use mathlib.Core.Path.{_≡_};
+ghost use Prim.Native.Nat.{ℕ, _<_};
+ghost use lib.ListN.{length};
+ghost use Rattle.flat.specs.Flat.{summedAreaOf};
+ghost use Rattle.next_corner.specs.NextCorner.{directionOf, turnsOf, sameOf, strictlyIn, blocksOf, blockedOf, turnsAt, earAt, findEar, findTurn, findCorner};
+
+// The summed area of a ring of points, and the direction in which it runs.
+fn summed_area(ps: &[[f64; 2]]) -> f64
+    ensures { λ r. ⌜ r ≡ summedAreaOf (now (ps .entry)) ⌝ }
+{
+    let n = ps.len();
+    let mut s = 0.0;
+    let mut i = 0;
+    while i < n {
+        let a = places::point(ps, i);
+        let b = places::point(ps, places::next(i, n));
+        s = flat::area_side(a, b, s);
+        i += 1;
+    }
+    s
+}
+
+pub fn direction(ps: &[[f64; 2]]) -> f64
+    ensures { λ r. ⌜ r ≡ directionOf (now (ps .entry)) ⌝ }
+{
+    if summed_area(ps) >= 0.0 { 1.0 } else { -1.0 }
+}
+
+// Whether the corner b between a and c turns the way of dir, or not at all.
+fn turns(a: [f64; 2], b: [f64; 2], c: [f64; 2], dir: f64) -> bool
+    ensures { λ r. ⌜ r ≡ turnsOf a b c dir ⌝ }
+{
+    flat::cross2(a, b, c) * dir >= 0.0
+}
+
+fn same2(p: [f64; 2], q: [f64; 2]) -> bool
+    ensures { λ r. ⌜ r ≡ sameOf p q ⌝ }
+{
+    if p[0] == q[0] { p[1] == q[1] } else { false }
+}
+
+fn strictly_in(a: [f64; 2], b: [f64; 2], c: [f64; 2], dir: f64, p: [f64; 2]) -> bool
+    ensures { λ r. ⌜ r ≡ strictlyIn a b c dir p ⌝ }
+{
+    if flat::cross2(a, b, p) * dir > 0.0 {
+        if flat::cross2(b, c, p) * dir > 0.0 {
+            return flat::cross2(c, a, p) * dir > 0.0;
+        }
+    }
+    false
+}
+
+// Whether p is in the way of the triangle a, b, c.
+fn blocks(a: [f64; 2], b: [f64; 2], c: [f64; 2], dir: f64, p: [f64; 2]) -> bool
+    ensures { λ r. ⌜ r ≡ blocksOf a b c dir p ⌝ }
+{
+    if same2(p, a) {
+        return false;
+    }
+    if same2(p, b) {
+        return false;
+    }
+    if same2(p, c) {
+        return false;
+    }
+    strictly_in(a, b, c, dir, p)
+}
+
+fn blocked(ps: &[[f64; 2]], a: [f64; 2], b: [f64; 2], c: [f64; 2], dir: f64) -> bool
+    ensures { λ r. ⌜ r ≡ blockedOf (now (ps .entry)) a b c dir ⌝ }
+{
+    let n = ps.len();
+    let mut i = 0;
+    while i < n {
+        if blocks(a, b, c, dir, places::point(ps, i)) {
+            return true;
+        }
+        i += 1;
+    }
+    false
+}
+
+// Whether the corner at place k turns the right way, and whether it is an ear.
+fn turns_at(ps: &[[f64; 2]], k: usize, dir: f64) -> bool
+    requires { ⌜ k < length (now ps) ⌝ }
+    ensures { λ r. ⌜ r ≡ turnsAt (now (ps .entry)) dir k ⌝ }
+{
+    let n = ps.len();
+    let a = places::point(ps, places::prev(k, n));
+    let b = places::point(ps, k);
+    let c = places::point(ps, places::next(k, n));
+    turns(a, b, c, dir)
+}
+
+fn ear_at(ps: &[[f64; 2]], k: usize, dir: f64) -> bool
+    requires { ⌜ k < length (now ps) ⌝ }
+    ensures { λ r. ⌜ r ≡ earAt (now (ps .entry)) dir k ⌝ }
+{
+    let n = ps.len();
+    let a = places::point(ps, places::prev(k, n));
+    let b = places::point(ps, k);
+    let c = places::point(ps, places::next(k, n));
+    if turns(a, b, c, dir) {
+        !blocked(ps, a, b, c, dir)
+    } else {
+        false
+    }
+}
+
+fn find_ear(ps: &[[f64; 2]], dir: f64) -> places::Found
+    ensures { λ r. ⌜ r ≡ findEar (now (ps .entry)) dir ⌝ }
+{
+    let n = ps.len();
+    let mut k = 0;
+    while k < n {
+        if ear_at(ps, k, dir) {
+            return places::Found::At(k);
+        }
+        k += 1;
+    }
+    places::Found::Nothing
+}
+
+fn find_turn(ps: &[[f64; 2]], dir: f64) -> places::Found
+    ensures { λ r. ⌜ r ≡ findTurn (now (ps .entry)) dir ⌝ }
+{
+    let n = ps.len();
+    let mut k = 0;
+    while k < n {
+        if turns_at(ps, k, dir) {
+            return places::Found::At(k);
+        }
+        k += 1;
+    }
+    places::Found::Nothing
+}
+
+pub fn find_corner(ps: &[[f64; 2]], dir: f64) -> places::Found
+    ensures { λ r. ⌜ r ≡ findCorner (now (ps .entry)) dir ⌝ }
+{
+    let f = find_ear(ps, dir);
+    match f {
+        places::Found::At(k) => places::Found::At(k),
+        places::Found::Nothing => find_turn(ps, dir),
+    }
+}

@@ -1,0 +1,3 @@
+pub mod Convexity
+pub mod Outward
+pub mod Steps

@@ -1,0 +1,28 @@
+// The largest sizes that are taken, as document 01's table of refusals has them: each is named here, and in specs/Limits.antt.
+
+// Vertices of a cell, or points of a list of points of space.
+pub const MOST_VERTICES: usize = 256;
+
+// Their coordinates: three a vertex.
+pub const MOST_COORDINATES: usize = 3 * MOST_VERTICES;
+
+// Faces of a cell.
+pub const MOST_FACES: usize = 256;
+
+// Corners of a cell.
+pub const MOST_CORNERS: usize = 2048;
+
+// Entries of the corner list of `point_in_phed`, corners and marks.
+pub const MOST_MARKED_CORNERS: usize = 2304;
+
+// Query points of a cell.
+pub const MOST_QUERIES: usize = 256;
+
+// Planes that a face is clipped by.
+pub const MOST_PLANES: usize = 256;
+
+// Points of a list of points of the plane.
+pub const MOST_PLANE_POINTS: usize = 512;
+
+// Numbers of a work list.
+pub const MOST_WORK_NUMBERS: usize = 3072;

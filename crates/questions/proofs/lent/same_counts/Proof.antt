@@ -1,0 +1,27 @@
+-- Every place that is read is below the length of the list.
+use mathlib.Core.Path.{_≡_}
+use Prim.Native.Nat.{_-_}
+use lib.ListN.{length}
+use borrow.Author.Needs.{needs}
+use Rattle.questions.proofs.lent.same_counts.Statement.{statement}
+use Rattle.questions.proofs.lent.same_counts.Tie as tie
+
+pub same-counts-spec : {M : Type 1} → statement M
+same-counts-spec =
+    tie.close
+    (tie.spec
+    (λ ws ns n i₀ i. n ≡ length ns)
+    (λ ws ns n i₀ i. n - i)
+    (λ c κs. search needs)
+    (λ c. search needs)
+    (λ c. search needs)
+    (λ c. search needs)
+    (λ c κs. search needs)
+    (λ c. search needs)
+    (λ c. search needs)
+    (λ c κs. search needs)
+    (λ c. search needs)
+    (λ c. search needs)
+    (λ c. search needs)
+    (λ c. search needs)
+    (λ c. search needs))

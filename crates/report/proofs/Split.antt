@@ -1,0 +1,162 @@
+-- However the input is split, a run prints the report of the whole: the whole records of the bytes so far, and then those of what waits
+-- with the next piece behind it, are the whole records of all of them, in their order.
+use mathlib.Core.Path.{_≡_, refl, sym, ap, _∙_}
+use mathlib.Core.List.{List, [], _∷_, _++_, append-assoc, append-nil}
+use Prim.Native.Nat.{ℕ, _+_, _-_, _*_, _/_, _≤_}
+use native.Mathlib.Omega.{arith}
+use lib.ListN.{length, take, drop, length-append, length-drop}
+use lib.Seq.{drop-append-le, drop-drop, take-at, drop-at, take-add, length-take-le}
+use lib.Ieee.{Float}
+use Rattle.places.specs.Stored.{joined}
+use Rattle.lines.specs.Text.{Put}
+use Rattle.records.specs.declared.tally.Tally.{Tally}
+use Rattle.records.specs.Tally.{newOf}
+use Rattle.report.specs.Report.{Held, heldOf, freshOf, after, linesOf, tailOf, reportFrom, reportOf, movedOf}
+use Rattle.report.specs.Split.{wholeOf, restOf, printedFrom, AnySplit, OneReport, Reached, Starts, OneMore, AtTheEnd}
+use Rattle.report.specs.Split.{Takes, Feeds, Finishes, WentOn, Running}
+use Rattle.report.proofs.Joining.{after-front, lines-front, after-add, lines-add}
+use Rattle.report.proofs.Taken.{front}
+
+-- ---- all bytes, from the bytes given and one more piece
+counts : (N g R : ℕ) → N ≡ g / 32 * 32 + R → N / 32 ≡ g / 32 + R / 32
+counts N g R e = omega arith
+
+whole : (n : ℕ) → n / 32 * 32 ≤ n
+whole n = omega arith
+
+times : (a b : ℕ) → (a + b) * 32 ≡ a * 32 + b * 32
+times a b = omega arith
+
+sizes : (g s : List ℕ) → length (g ++ s) ≡ wholeOf g * 32 + length (restOf g ++ s)
+sizes g s = simp (length-append, length-drop) (omega arith)
+
+more-whole : (g s : List ℕ) → wholeOf (g ++ s) ≡ wholeOf g + wholeOf (restOf g ++ s)
+more-whole g s = counts (length (g ++ s)) (length g) (length (restOf g ++ s)) (sizes g s)
+
+behind : (g s : List ℕ) → drop (wholeOf g * 32) (g ++ s) ≡ restOf g ++ s
+behind g s = drop-append-le (wholeOf g * 32) g s (whole (length g))
+
+more-rest : (g s : List ℕ) → restOf (g ++ s) ≡ restOf (restOf g ++ s)
+more-rest g s = at (wholeOf (g ++ s)) (wholeOf (restOf g ++ s)) (more-whole g s)
+  where
+    at : (n b : ℕ) → n ≡ wholeOf g + b → drop (n * 32) (g ++ s) ≡ drop (b * 32) (restOf g ++ s)
+    at n b e = rw (e, times (wholeOf g) b, ← drop-drop (b * 32) (wholeOf g * 32) (g ++ s), behind g s)
+
+more-held : (h : Held) (g s : List ℕ)
+    → after (wholeOf (g ++ s)) h (g ++ s) ≡ after (wholeOf (restOf g ++ s)) (after (wholeOf g) h g) (restOf g ++ s)
+more-held h g s = at (wholeOf (g ++ s)) (wholeOf (restOf g ++ s)) (more-whole g s)
+  where
+    at : (n b : ℕ) → n ≡ wholeOf g + b → after n h (g ++ s) ≡ after b (after (wholeOf g) h g) (restOf g ++ s)
+    at n b e = rw (e, after-add h (g ++ s) (wholeOf g) b, behind g s, after-front h g s (wholeOf g) (whole (length g)))
+
+more-lines : (h : Held) (g s : List ℕ)
+    → linesOf (wholeOf (g ++ s)) h (g ++ s)
+    ≡ linesOf (wholeOf g) h g ++ linesOf (wholeOf (restOf g ++ s)) (after (wholeOf g) h g) (restOf g ++ s)
+more-lines h g s = at (wholeOf (g ++ s)) (wholeOf (restOf g ++ s)) (more-whole g s)
+  where
+    at : (n b : ℕ) → n ≡ wholeOf g + b
+        → linesOf n h (g ++ s) ≡ linesOf (wholeOf g) h g ++ linesOf b (after (wholeOf g) h g) (restOf g ++ s)
+    at n b e =
+        rw (
+          e,
+          lines-add h (g ++ s) (wholeOf g) b,
+          behind g s,
+          after-front h g s (wholeOf g) (whole (length g)),
+          lines-front h g s (wholeOf g) (whole (length g)),
+        )
+
+-- ---- a run on its way: its start, one more piece, its end
+pub starts : Starts
+unfolding after linesOf
+starts = record { held = refl; waits = refl; lines = refl }
+
+pub one-more : OneMore
+one-more h w s =
+    record {
+      on = λ given printed r.
+          record {
+            held = rw (r .held, r .waits, more-held (freshOf 1) given s);
+            waits = rw (r .waits, more-rest given s);
+            lines = rw (r .lines, r .held, r .waits, more-lines (freshOf 1) given s);
+          };
+    }
+
+pub at-the-end : AtTheEnd
+unfolding reportFrom
+at-the-end given h w printed r = rw (r .lines, r .held, r .waits, length-drop (wholeOf given * 32) given)
+
+-- ---- the theorem
+from-there : {given : List ℕ} {h : Held} {w printed : List ℕ} (ss : List (List ℕ)) → Reached given h w printed
+    → printed ++ printedFrom h w ss ≡ reportOf (given ++ joined ss)
+unfolding printedFrom joined
+from-there {given} {h} {w} {printed} [] r = at-the-end given h w printed r ∙ ap reportOf (sym (append-nil given))
+from-there {given} {h} {w} {printed} (s ∷ ss) r =
+    sym (append-assoc printed _ _)
+    ∙ from-there ss (one-more h w s .on given printed r)
+    ∙ ap reportOf (append-assoc given s (joined ss))
+
+pub any-split : AnySplit
+any-split ss = from-there ss starts
+
+pub one-report : OneReport
+one-report ss ts e = any-split ss ∙ ap reportOf e ∙ sym (any-split ts)
+
+-- ---- the contracts
+pub feeds : {h h′ : Held} {b w′ p : List ℕ} → h′ ≡ after (wholeOf b) h b → w′ ≡ restOf b → p ≡ linesOf (wholeOf b) h b → Feeds h b h′ w′ p
+feeds e f g = record { takes = λ w s c. rw (e, f, g, c) (one-more _ w s) }
+
+pub finishes : (t : Tally) (left : ℕ) {p : List ℕ} → p ≡ tailOf (t .begun) left → Finishes t left p
+finishes t left e = record { whole = λ given h w printed c d r. rw (e, ← c, ← d) (at-the-end given h w printed r) }
+
+-- what stands at the front of a list into which text was put
+pub put-front : {o xs o′ : List ℕ} {m : ℕ} → Put o 0 xs o′ m → m ≤ length o → take m o′ ≡ xs
+put-front {o} {xs} p l = rw (p .ends, p .holds) (front o xs 0 (omega (arith, p .ends)))
+
+pub finished : {o xs o′ : List ℕ} {r : ℕ} (t : Tally) (left : ℕ) → tailOf (t .begun) left ≡ xs → Put o 0 xs o′ r → r ≤ length o
+    → Put o 0 (tailOf (t .begun) left) o′ r × ((r ≤ length o) × Finishes t left (take r o′))
+finished t left e p l = (rw e p, (l, finishes t left (put-front p l ∙ sym e)))
+
+-- the bytes that are moved to the front of the block are those that wait
+pub moved-rest : (b : List ℕ) {b′ : List ℕ} (total : ℕ) → total ≤ length b → b′ ≡ movedOf b (total / 32 * 32) (total - total / 32 * 32)
+    → take (total - total / 32 * 32) b′ ≡ restOf (take total b)
+moved-rest b total l m = rw (m, length-take-le total b l) (at (total / 32 * 32) (total - total / 32 * 32) (omega arith) (omega arith))
+  where
+    at : (f n : ℕ) → f + n ≡ total → f + n ≤ length b → take n (take n (drop f b) ++ drop n b) ≡ drop f (take total b)
+    at f n e k =
+        take-at (take n (drop f b)) (drop n b) n (length-take-le n (drop f b) (simp length-drop (omega arith)))
+        ∙ sym (drop-at (take f b) (take n (drop f b)) f (length-take-le f b (omega arith)))
+        ∙ ap (drop f) (sym (take-add f n b) ∙ ap (λ (k : ℕ). take k b) e)
+
+-- ---- the program
+-- nothing came: the state is as it was, and nothing is printed
+pub stays : {t u : Tally} {have n m : ℕ} (a : List Float) (b c : List ℕ) (d : List Float) (block block′ out : List ℕ)
+    → u ≡ t → n ≡ have → m ≡ 0 → take have block′ ≡ take have block
+    → WentOn (heldOf t a b c d) (take have block) (heldOf u a b c d) (take n block′) (take m out)
+stays a b c d block block′ out e f g k =
+    record {
+      came = [];
+      takes = record { on = λ given printed r. rw (e, f, g, k, append-nil given, append-nil printed) r };
+    }
+
+-- the block's first bytes were fed: those that waited, and behind them those that came
+pub came-in : {h h′ : Held} {w′ p : List ℕ} (have n : ℕ) (block : List ℕ) → Feeds h (take (have + n) block) h′ w′ p
+    → Takes h (take have block) (take n (drop have block)) h′ w′ p
+came-in have n block f = f .takes (take have block) (take n (drop have block)) (take-add have n block)
+
+-- the bytes s came behind those that waited
+pub went : {h : Held} {w v s : List ℕ} {t u : Tally} {n n′ m m′ : ℕ} (a : List Float) (b c : List ℕ) (d : List Float) (block out : List ℕ)
+    → v ≡ w → Takes h v s (heldOf t a b c d) (take n block) (take m out) → u ≡ t → n′ ≡ n → m′ ≡ m
+    → WentOn h w (heldOf u a b c d) (take n′ block) (take m′ out)
+went {s} a b c d block out k f e g i = record { came = s; takes = rw (e, g, i, ← k) f }
+
+-- the program starts as a run, and goes on as one
+pub new-runs : {t : Tally} (a : List Float) (b c : List ℕ) (d : List Float) → t ≡ newOf 1 → Running (heldOf t a b c d) []
+new-runs a b c d e = rw e (record { given = []; printed = []; reached = starts })
+
+pub runs-on : {h : Held} {w : List ℕ} {h′ : Held} {w′ p : List ℕ} → Running h w → WentOn h w h′ w′ p → Running h′ w′
+runs-on {p} r t =
+    record {
+      given = r .given ++ t .came;
+      printed = r .printed ++ p;
+      reached = t .takes .on (r .given) (r .printed) (r .reached);
+    }

@@ -1,0 +1,4 @@
+pub mod Corners
+pub mod Counted
+pub mod Room
+pub mod Numbers

@@ -1,5 +1,0 @@
-pub mod Corners
-pub mod Counted
-pub mod Room
-pub mod Numbers
-pub mod Worked

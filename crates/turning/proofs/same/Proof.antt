@@ -1,9 +1,0 @@
-use Rattle.turning.proofs.same.Statement.{statement}
-use Rattle.turning.proofs.same.Tie as tie
-
-pub same-spec : {M : Type 1} → statement M
-same-spec =
-    tie.close
-    (tie.spec
-    (λ c. rw (c .before .before .if1 .taken))
-    (λ c. rw (c .if1 .left)))

@@ -1,3 +1,0 @@
-pub mod Convexity
-pub mod Turning
-pub mod Steps

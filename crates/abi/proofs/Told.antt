@@ -16,8 +16,8 @@ use Rattle.geometry.specs.declared.Done.{Done}
 use Rattle.geometry.specs.declared.Clipped.{Clipped}
 use Rattle.geometry.specs.Cells.{trianglesAnswer}
 use Rattle.geometry.specs.TurnFaces.{canTurnAnswer, TurnFacesGives}
-use Rattle.geometry.specs.Listed.{Listed, told, written, ofNumber, ofCount, ofDone, doneTold, ofShape, clippingTold, measureTold, trianglesTold}
-use Rattle.geometry.specs.Listed.{codeWithoutRoom, TurnFacesTold}
+use Rattle.geometry.specs.Listed.{Listed, told, written, ofNumber, ofCount, ofDone, doneTold, ofShape, clippingTold, measureTold}
+use Rattle.geometry.specs.Listed.{trianglesTold, codeWithoutRoom, TurnFacesTold}
 
 abbrev Told : Type 0
 Told = ℕ × List Float × List ℕ

@@ -12,7 +12,8 @@ removed k l = without k l ++ drop (length l - 1) l
 unfoldable pub swapped : {A : Type 0} → A → ℕ → ℕ → List A → List A
 swapped d i j l = set (set l i (getD l j d)) j (getD l i d)
 
--- the numbers that make no point: of a list that is stored in threes the one or two over at its end, of one that is stored in pairs the one over
+-- the numbers that make no point: of a list that is stored in threes the one or two over at its end,
+-- of one that is stored in pairs the one over
 unfoldable pub overThrees : {A : Type 0} → List A → List A
 overThrees [] = []
 overThrees (a ∷ []) = a ∷ []

@@ -75,7 +75,8 @@ pub fn count_face(table: &mut [u16], number: &[u16], k: usize, face: &[u32])
 pub fn count_faces(table: &mut [u16], number: &[u16], k: usize, corners: &[u32], ends: &[u32])
     requires { ⌜ Numbered (now number) k (now corners) (now ends) ⌝ }
     requires { ⌜ Room (k * k) (length (now corners)) (now table) ⌝ }
-    ensures { λ _. ⌜ now (table .exit) ≡ countFaces (entryOf (now (number .entry)) k) (facesOf (now (corners .entry)) (now (ends .entry))) (now (table .entry)) ⌝ }
+    ensures { λ _. ⌜ now (table .exit) ≡ countFaces (entryOf (now (number .entry)) k)
+        (facesOf (now (corners .entry)) (now (ends .entry))) (now (table .entry)) ⌝ }
 {
     let n = ends.len();
     let mut start = 0;

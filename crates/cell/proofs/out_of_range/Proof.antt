@@ -1,3 +1,4 @@
+-- `cell::out_of_range` meets its contract: both comparisons are those of the definition, and the lower one decides first.
 use Rattle.cell.specs.Refusals.{outOfRange}
 use Rattle.cell.proofs.out_of_range.Statement.{statement}
 use Rattle.cell.proofs.out_of_range.Tie as tie

@@ -1,3 +1,4 @@
+-- `geometry::bounds` meets its contract: the room takes the box of the vertices, and its corners get names.
 use Rattle.geometry.specs.declared.Extent.{Extent}
 use Rattle.geometry.specs.Cells.{boundsAnswer}
 use Rattle.geometry.proofs.Answers.{refused, passed}

@@ -1,3 +1,4 @@
+-- `geometry::centroid` meets its contract: a cell that passes the checks has vertices, and the room takes their mean.
 use mathlib.Core.Path.{sym, _∙_}
 use mathlib.Core.List.{[]}
 use native.Mathlib.Omega.{arith}

@@ -1,3 +1,4 @@
+-- `geometry::point_in_phed` meets its contract: a list that passes the checks holds vertices and marks, and the room counts crossings.
 use mathlib.Core.Path.{sym, _∙_}
 use Rattle.geometry.specs.declared.Truth.{Truth}
 use Rattle.geometry.specs.Cells.{pointInPhedAnswer}

@@ -1,3 +1,4 @@
+-- `geometry::scale` meets its contract: the room takes the box of the vertices, and its longest side.
 use Rattle.geometry.specs.declared.Number.{Number}
 use Rattle.geometry.specs.Cells.{scaleAnswer}
 use Rattle.geometry.proofs.Answers.{refused, passed}

@@ -1,3 +1,4 @@
+-- `geometry::survey` meets its contract: what passes the checks is sound, and each number is that of its room.
 use mathlib.Core.Path.{sym, _∙_, ap}
 use Rattle.places.proofs.Stored.{length-threes}
 use Rattle.volume.specs.Volume.{volumeOf}

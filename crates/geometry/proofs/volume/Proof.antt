@@ -1,3 +1,4 @@
+-- `geometry::volume` meets its contract: a cell that passes the checks is sound, and the room computes its volume.
 use mathlib.Core.Path.{sym, _∙_}
 use mathlib.Core.List.{[]}
 use Rattle.cell.proofs.Refusals.{sound}

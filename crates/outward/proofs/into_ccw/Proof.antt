@@ -1,3 +1,4 @@
+-- `outward::into_ccw` meets its contract: each pass turns one stretch, and what it leaves of the list is turned by the next ones.
 use mathlib.Core.Path.{_≡_, refl}
 use Prim.Native.Nat.{_-_}
 use native.Mathlib.Omega.{arith}

@@ -1,3 +1,4 @@
+-- `answer_lists::given::shape_known` meets its contract: each number has its shape, and any other number none.
 use borrow.Author.Tests.{ne-eqb}
 use Rattle.geometry.specs.Listed.{shapeKnown}
 use Rattle.answer_lists.proofs.given.shape_known.Statement.{statement}

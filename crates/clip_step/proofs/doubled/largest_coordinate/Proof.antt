@@ -1,3 +1,4 @@
+-- `clip_step::doubled::largest_coordinate` meets its contract: the same three magnitudes, compared in the same order.
 use Rattle.clip_step.specs.Doubled.{largestCoordinate}
 use borrow.Author.Needs.{needs}
 use Rattle.clip_step.proofs.doubled.largest_coordinate.Statement.{statement}

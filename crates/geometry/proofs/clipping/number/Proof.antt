@@ -1,3 +1,4 @@
+-- `geometry::clipping::number` meets its contract: each case of a sum has its answer.
 use borrow.Author.Needs.{needs}
 use Rattle.geometry.proofs.clipping.number.Statement.{statement}
 use Rattle.geometry.proofs.clipping.number.Tie as tie

@@ -1,3 +1,4 @@
+-- `geometry::in_plane::bounds2` meets its contract: the room takes the box of the points, and its corners get names.
 use Rattle.geometry.specs.declared.PlaneExtent.{PlaneExtent}
 use Rattle.geometry.specs.Points.{bounds2Answer}
 use Rattle.geometry.proofs.Answers.{refused, passed}

@@ -1,3 +1,4 @@
+-- `geometry::in_plane::signed_area2` meets its contract: a list that passes the checks comes in pairs, and the room computes the area.
 use Rattle.geometry.specs.declared.Number.{Number}
 use Rattle.geometry.specs.Points.{signedArea2Answer}
 use Rattle.geometry.proofs.Answers.{refused, passed}

@@ -1,3 +1,4 @@
+-- `geometry::in_plane::vertex_centroid2` meets its contract: the room takes the mean of the points, and its coordinates get names.
 use mathlib.Core.Path.{sym, _∙_}
 use Rattle.geometry.specs.declared.PlanePlace.{PlanePlace}
 use Rattle.geometry.specs.Points.{vertexCentroid2Answer}

@@ -1,3 +1,4 @@
+-- `geometry::in_space::list_bounds` meets its contract: the room takes the box of the points, and its corners get names.
 use Rattle.geometry.specs.declared.Extent.{Extent}
 use Rattle.geometry.specs.Points.{listBoundsAnswer}
 use Rattle.geometry.proofs.Answers.{refused, passed}

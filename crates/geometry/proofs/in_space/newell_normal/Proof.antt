@@ -1,3 +1,4 @@
+-- `geometry::in_space::newell_normal` meets its contract: the room computes the sums, and their parts get names.
 use Rattle.geometry.specs.declared.Place.{Place}
 use Rattle.geometry.specs.Points.{newellNormalAnswer}
 use Rattle.geometry.proofs.Answers.{refused, passed}

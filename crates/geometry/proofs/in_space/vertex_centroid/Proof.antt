@@ -1,3 +1,4 @@
+-- `geometry::in_space::vertex_centroid` meets its contract: the room takes the mean of the points, and its coordinates get names.
 use mathlib.Core.Path.{sym, _∙_}
 use native.Mathlib.Omega.{arith}
 use Rattle.places.proofs.Stored.{length-threes}

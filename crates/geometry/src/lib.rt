@@ -362,11 +362,14 @@ pub fn triangles(
 ) -> Count
     ensures { λ r. ⌜ (r, new out) ≡ trianglesAnswer (old coords) (old corners) (old ends) face (old out) ⌝ }
 {
-    let why = refusals::triangles_refusal(coords, corners, ends, face, out.len());
+    let why = refusals::face_refusal(coords, corners, ends, face);
     if why != 0 {
         return Count::Refused(why);
     }
     let part = cell::face_by_number(corners, ends, face as usize);
+    if refusals::room_refused(part, out.len()) {
+        return Count::Refused(6);
+    }
     let c = cut::cut(coords, part, out);
     Count::Is(c.triangles)
 }

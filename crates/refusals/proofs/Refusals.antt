@@ -26,7 +26,9 @@ use Rattle.inside.specs.Steps.{MarkedInside}
 use Rattle.planes.specs.Planes.{inFours}
 use Rattle.planes.proofs.Faces.{has-corner}
 use Rattle.planes.proofs.Stored.{length-fours}
-use Rattle.refusals.specs.Refusals.{firstRefusal, listRefusal, pairsRefused, planeRefusal, facesRefusal, roomRefused, trianglesRefusal, strays, phedRefusal, queriesRefused, surveyRefusal, planesRefused, workRefused, worksRefusal, clipRefusal, planarRefusal, overlapRefusal}
+use Rattle.refusals.specs.Refusals.{firstRefusal, listRefusal, pairsRefused, planeRefusal, faceRefusal, facesRefusal, roomRefused}
+use Rattle.refusals.specs.Refusals.{trianglesRefusal, strays, phedRefusal, queriesRefused, surveyRefusal, planesRefused}
+use Rattle.refusals.specs.Refusals.{workRefused, worksRefusal, clipRefusal, planarRefusal, overlapRefusal}
 use Rattle.refusals.specs.Steps.{partsRefused}
 
 -- ---- the first of two refusals
@@ -126,46 +128,48 @@ phed-known coords cs p e =
     )
 
 -- ---- the triangles of a face
+-- the check of the cell and the face's number decides where it refuses, else the room does
 module _ (coords : List Float) (corners ends : List ℕ) (k room : ℕ) where
-  pub first-decides : {why : ℕ} → why ≡ refusalOf coords corners ends [] (k ∷ []) → why ≢ 0 → why ≡ trianglesRefusal coords corners ends k room
+  pub first-decides : {why : ℕ} → why ≡ faceRefusal coords corners ends k → why ≢ 0 → why ≡ trianglesRefusal coords corners ends k room
   unfolding trianglesRefusal
   first-decides f n = or-found _ f n
 
-  pub room-decides : {why : ℕ} (b : Bool) → why ≡ refusalOf coords corners ends [] (k ∷ []) → why ≡ 0 → roomRefused (getD (facesOf corners ends) k []) room ≡ b
-      → pick b 6 0 ≡ trianglesRefusal coords corners ends k room
+  pub room-decides : {why : ℕ} (b : Bool) → why ≡ faceRefusal coords corners ends k → why ≡ 0
+      → b ≡ roomRefused (getD (facesOf corners ends) k []) room → pick b 6 0 ≡ trianglesRefusal coords corners ends k room
   unfolding trianglesRefusal firstRow
-  room-decides b f z r = or-other _ f z (rw r)
+  room-decides b f z r = or-other _ f z (rw (sym r))
+
+-- a face that has room
+pub fits : (face : List ℕ) (room : ℕ) → false ≡ roomRefused face room → length face - 2 ≤ room
+unfolding roomRefused
+fits face room e = ltb-false room _ (sym e)
 
 -- a face of a sound cell
 pub face-sound : (coords : List Float) (corners ends : List ℕ) (k : ℕ) → Sound coords corners ends → k < length ends
     → Inside (verticesOf coords) (getD (facesOf corners ends) k []) × (length (getD (facesOf corners ends) k []) ≤ 2048)
 face-sound coords corners ends k s h =
+    let start = getD (0 ∷ ends) k 0 in
+    let end = getD ends k 0 in
     let r = rises-at 0 ends (length corners) k h (s .ordered) in
-    rw (face-at corners ends k h) (each-slice (getD (0 ∷ ends) k 0) (getD ends k 0) corners (s .inside), omega (arith, length-slice (getD (0 ∷ ends) k 0) (getD ends k 0) corners (r .1), s .few-corners))
+    rw (face-at corners ends k h) (
+      each-slice start end corners (s .inside),
+      omega (arith, length-slice start end corners (r .1), s .few-corners),
+    )
 
--- what is known of the face k where its triangles are not refused
-pub record Cuttable (coords : List Float) (corners ends : List ℕ) (k room : ℕ) : Type 0 where
+-- what is known of the face k where neither the cell nor that number is refused
+pub record AskedFace (coords : List Float) (corners ends : List ℕ) (k : ℕ) : Type 0 where
   pub ordered : T (rises 0 ends (length corners))
   pub there : k < length ends
   pub inside : Inside (verticesOf coords) (getD (facesOf corners ends) k [])
   pub few : length (getD (facesOf corners ends) k []) ≤ 2048
-  pub fits : length (getD (facesOf corners ends) k []) - 2 ≤ room
 
-pub cut-known : (coords : List Float) (corners ends : List ℕ) (k room : ℕ) → trianglesRefusal coords corners ends k room ≡ 0
-    → Cuttable coords corners ends k room
-unfolding trianglesRefusal roomRefused
-cut-known coords corners ends k room z =
-    let two = or-zero (refusalOf coords corners ends [] (k ∷ [])) _ z in
-    let s = sound coords corners ends [] (k ∷ []) (two .0) in
-    let there = asked-known coords corners ends [] (k ∷ []) (two .0) .holds 0 (omega arith) in
+pub asked-face : (coords : List Float) (corners ends : List ℕ) (k : ℕ) → faceRefusal coords corners ends k ≡ 0
+    → AskedFace coords corners ends k
+asked-face coords corners ends k z =
+    let s = sound coords corners ends [] (k ∷ []) z in
+    let there = asked-known coords corners ends [] (k ∷ []) z .holds 0 (omega arith) in
     let face = face-sound coords corners ends k s there in
-    record {
-      ordered = s .ordered;
-      there = there;
-      inside = face .0;
-      few = face .1;
-      fits = ltb-false room _ (one-row 6 _ (omega arith) (two .1));
-    }
+    record { ordered = s .ordered; there = there; inside = face .0; few = face .1 }
 
 -- a face of a cell that has no empty face
 pub face-solid : (corners ends : List ℕ) (k : ℕ) → emptyRefused corners ends ≡ false → k < length ends → 0 < length (getD (facesOf corners ends) k [])
@@ -222,14 +226,12 @@ clip-known coords corners ends k planes first second e =
     let lists = or-zero _ _ (size .1) in
     let fours = parts-known (length planes) 4 256 (planes-are planes ∙ one-row 1 _ (omega arith) (size .0)) in
     let works = works-known first second (lists .0) in
-    let s = sound coords corners ends [] (k ∷ []) (lists .1) in
-    let h = asked-known coords corners ends [] (k ∷ []) (lists .1) .holds 0 (omega arith) in
-    let face = face-sound coords corners ends k s h in
+    let face = asked-face coords corners ends k (lists .1) in
     record {
-      ordered = s .ordered;
-      there = h;
-      inside = face .0;
-      corners-few = face .1;
+      ordered = face .ordered;
+      there = face .there;
+      inside = face .inside;
+      corners-few = face .few;
       planes-few = omega (arith, fours .0, fours .1);
       first-few = works .0;
       second-few = works .1;
@@ -256,22 +258,22 @@ planar-known subject clip first second e =
     }
 
 -- what is known where the overlap of two cells is not refused
-pub record Overlapping (coords : List Float) (corners ends : List ℕ) (otherCoords : List Float) (otherCorners otherEnds : List ℕ) (first second : List Float) : Type 0 where
+pub record Overlapping (coords : List Float) (corners ends : List ℕ) (coords2 : List Float) (corners2 ends2 : List ℕ) (first second : List Float) : Type 0 where
   pub one : FacesKnown coords corners ends []
-  pub other : FacesKnown otherCoords otherCorners otherEnds []
+  pub other : FacesKnown coords2 corners2 ends2 []
   pub first-few : length first ≤ 3072
   pub second-few : length second ≤ 3072
 
-pub overlap-known : (coords : List Float) (corners ends : List ℕ) (otherCoords : List Float) (otherCorners otherEnds : List ℕ) (first second : List Float)
-    → overlapRefusal coords corners ends otherCoords otherCorners otherEnds first second ≡ 0 → Overlapping coords corners ends otherCoords otherCorners otherEnds first second
+pub overlap-known : (coords : List Float) (corners ends : List ℕ) (coords2 : List Float) (corners2 ends2 : List ℕ) (first second : List Float)
+    → overlapRefusal coords corners ends coords2 corners2 ends2 first second ≡ 0 → Overlapping coords corners ends coords2 corners2 ends2 first second
 unfolding overlapRefusal
-overlap-known coords corners ends otherCoords otherCorners otherEnds first second e =
+overlap-known coords corners ends coords2 corners2 ends2 first second e =
     let lists = or-zero _ _ e in
     let cells = or-zero _ _ (lists .1) in
     let works = works-known first second (lists .0) in
     record {
       one = faces-known coords corners ends [] (cells .0);
-      other = faces-known otherCoords otherCorners otherEnds [] (cells .1);
+      other = faces-known coords2 corners2 ends2 [] (cells .1);
       first-few = works .0;
       second-few = works .1;
     }

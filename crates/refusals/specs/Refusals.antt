@@ -1,7 +1,6 @@
 -- Why a check refuses a public entry's input, 0 where none does. For a cell it is `refusalOf` of the crate cell; here stand lists of
--- points,
--- what is asked of a cell's faces, triangles, turning the backward faces, `point_in_phed`, clipping, the overlap and the report's query
--- points.
+-- points, what is asked of a cell's faces, triangles, turning the backward faces, `point_in_phed`, clipping, the overlap and the
+-- report's query points.
 -- The refusal 6 of clipping and the overlaps, which is found on the way, is not among these.
 use mathlib.Core.Bool.{Bool, not, _&&_, _||_}
 use mathlib.Core.List.{List, [], _∷_}
@@ -45,6 +44,10 @@ cellRefusal coords corners ends = refusalOf coords corners ends [] []
 abbrev pub containsRefusal : List Float → List ℕ → List ℕ → List Float → ℕ
 containsRefusal coords corners ends p = refusalOf coords corners ends p []
 
+-- a cell, and the number k of one of its faces, which is judged with its 4
+abbrev pub faceRefusal : List Float → List ℕ → List ℕ → ℕ → ℕ
+faceRefusal coords corners ends k = refusalOf coords corners ends [] (k ∷ [])
+
 -- planes, outward turning and intersection: 1 to 4 for the cell and the faces that are asked for, then 5
 unfoldable pub facesRefusal : List Float → List ℕ → List ℕ → List ℕ → ℕ
 facesRefusal coords corners ends asked =
@@ -61,7 +64,7 @@ roomRefused face room = ltb room (length face - 2)
 -- the triangles of the face k: 1 to 4 for the cell and the face's number, then 6
 unfoldable pub trianglesRefusal : List Float → List ℕ → List ℕ → ℕ → ℕ → ℕ
 trianglesRefusal coords corners ends k room =
-    firstRefusal (refusalOf coords corners ends [] (k ∷ [])) (firstRow ((6, roomRefused (getD (facesOf corners ends) k []) room) ∷ []))
+    firstRefusal (faceRefusal coords corners ends k) (firstRow ((6, roomRefused (getD (facesOf corners ends) k []) room) ∷ []))
 
 -- 4 index, in a list with marks: an entry that is not the mark and not below n
 abbrev pub strays : ℕ → ℕ → Bool
@@ -102,7 +105,7 @@ worksRefusal first second = firstRow ((1, workRefused first || workRefused secon
 unfoldable pub clipRefusal : List Float → List ℕ → List ℕ → ℕ → List Float → List Float → List Float → ℕ
 clipRefusal coords corners ends k planes first second =
     firstRefusal (firstRow ((1, planesRefused planes) ∷ []))
-    (firstRefusal (worksRefusal first second) (refusalOf coords corners ends [] (k ∷ [])))
+    (firstRefusal (worksRefusal first second) (faceRefusal coords corners ends k))
 
 -- planar clipping, room apart: the subject through 2, with the work lists in its 1, then the clip list
 unfoldable pub planarRefusal : List Float → List Float → List Float → List Float → ℕ
@@ -110,6 +113,6 @@ planarRefusal subject clip first second = firstRefusal (worksRefusal first secon
 
 -- the overlap, room apart: the first cell through 5, with the work lists in its 1, then the second
 unfoldable pub overlapRefusal : List Float → List ℕ → List ℕ → List Float → List ℕ → List ℕ → List Float → List Float → ℕ
-overlapRefusal coords corners ends otherCoords otherCorners otherEnds first second =
+overlapRefusal coords corners ends coords2 corners2 ends2 first second =
     firstRefusal (worksRefusal first second)
-    (firstRefusal (facesRefusal coords corners ends []) (facesRefusal otherCoords otherCorners otherEnds []))
+    (firstRefusal (facesRefusal coords corners ends []) (facesRefusal coords2 corners2 ends2 []))

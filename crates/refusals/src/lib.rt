@@ -6,7 +6,7 @@ ghost use lib.Dec.{ltb};
 ghost use Rattle.places.specs.Lent.{old};
 ghost use Rattle.places.specs.Loops.{anyOf};
 ghost use Rattle.refusals.specs.Refusals.{listRefusal, pairsRefused, planeRefusal, cellRefusal, containsRefusal, facesRefusal};
-ghost use Rattle.refusals.specs.Refusals.{trianglesRefusal, turnFacesRefusal, strays, phedRefusal, queriesRefused, surveyRefusal};
+ghost use Rattle.refusals.specs.Refusals.{faceRefusal, roomRefused, turnFacesRefusal, strays, phedRefusal, queriesRefused, surveyRefusal};
 ghost use Rattle.refusals.specs.Refusals.{planesRefused, workRefused, worksRefusal, clipRefusal, planarRefusal, overlapRefusal};
 ghost use Rattle.refusals.specs.Steps.{partsRefused};
 
@@ -120,35 +120,23 @@ pub fn turn_faces_refusal(coords: &[f64], corners: &[u32], ends: &[u32]) -> u8
     facing::refusal(corners, ends, coords.len() / 3)
 }
 
-// Whether `room` places are too few for the triangles of a face of n corners.
-// Ruled out: a place asked for a face of two corners; one place too few let through.
-fn room_refused(n: usize, room: usize) -> bool
-    ensures { λ r. ⌜ r ≡ ltb room (n - 2) ⌝ }
-{
-    if n < 2 { false } else { room < n - 2 }
-}
-
-// Why the triangles of a face are refused, where there is room for so many; room is asked for even if the cut will stop short.
-// Ruled out: 6 for a face that is not there; no room asked for a face that gives fewer.
-pub fn triangles_refusal(
-    coords: &[f64],
-    corners: &[u32],
-    ends: &[u32],
-    face: u32,
-    room: usize,
-) -> u8
-    ensures { λ r. ⌜ r ≡ trianglesRefusal (old coords) (old corners) (old ends) face room ⌝ }
+// Why a cell is refused of which the face with a number is asked for.
+// Ruled out: a face that is not there let through; the face's number judged before the corners.
+pub fn face_refusal(coords: &[f64], corners: &[u32], ends: &[u32], face: u32) -> u8
+    ensures { λ r. ⌜ r ≡ faceRefusal (old coords) (old corners) (old ends) face ⌝ }
 {
     let asked = [face];
-    let why = cell::refusal(coords, corners, ends, &coords[..0], &asked);
-    if why != 0 {
-        return why;
-    }
-    let part = cell::face_by_number(corners, ends, face as usize);
-    if room_refused(part.len(), room) {
-        return 6;
-    }
-    0
+    cell::refusal(coords, corners, ends, &coords[..0], &asked)
+}
+
+// Whether `room` places are too few for the triangles of a face, which is refused as 6 after face_refusal; room is asked for even if
+// the cut will stop short. The face is the caller's, who has found it once.
+// Ruled out: a place asked for a face of two corners; one place too few let through.
+pub fn room_refused(face: &[u32], room: usize) -> bool
+    ensures { λ r. ⌜ r ≡ roomRefused (old face) room ⌝ }
+{
+    let n = face.len();
+    if n < 2 { false } else { room < n - 2 }
 }
 
 // Whether an entry that is not the mark is not below n. Every entry is looked at, without an exit.
@@ -240,8 +228,7 @@ pub fn clip_refusal(
     if size != 0 {
         return size;
     }
-    let asked = [face];
-    cell::refusal(coords, corners, ends, &coords[..0], &asked)
+    face_refusal(coords, corners, ends, face)
 }
 
 // Why planar clipping is refused, room apart.

@@ -1,10 +1,15 @@
--- `geometry::triangles` meets its contract: what the checks let through is a face of the cell that the list has room for, and the room
--- cuts it.
-use mathlib.Core.Path.{_≡_, sym, _∙_}
-use mathlib.Core.List.{List}
+-- `geometry::triangles` meets its contract: what the check lets through is a face of the cell, the room is asked for that face, and what
+-- it lets through is cut.
+use mathlib.Core.Path.{_≡_, refl, sym, _∙_}
+use mathlib.Core.Bool.{Bool, true, false}
+use mathlib.Core.List.{List, []}
 use Prim.Native.Nat.{ℕ}
-use lib.ListN.{length}
-use Rattle.refusals.proofs.Refusals.{Cuttable, cut-known}
+use native.Mathlib.Omega.{arith}
+use lib.ListN.{length, getD}
+use Rattle.places.specs.Loops.{pick}
+use Rattle.cell.specs.Faces.{facesOf}
+use Rattle.refusals.proofs.Refusals.{AskedFace, asked-face, first-decides, room-decides, fits}
+use Rattle.refusals.specs.Refusals.{roomRefused, trianglesRefusal}
 use Rattle.geometry.specs.declared.Count.{Count}
 use Rattle.geometry.specs.Cells.{trianglesAnswer}
 use Rattle.geometry.proofs.Answers.{refused, passed}
@@ -12,47 +17,77 @@ use borrow.Author.Needs.{needs}
 use Rattle.geometry.proofs.triangles.Statement.{statement}
 use Rattle.geometry.proofs.triangles.Tie as tie
 
--- what is known past the checks
+-- what is known past the first check
 known : (c : tie.Else1) → let s : tie.Start = search in
-    Cuttable (s .args .coords .now) (s .args .corners .now) (s .args .ends .now) (s .args .face) (length (s .args .out .now))
+    AskedFace (s .args .coords .now) (s .args .corners .now) (s .args .ends .now) (s .args .face)
 known c =
     let start : tie.Start = search in
     let args = start .args in
-    cut-known (args .coords .now) (args .corners .now) (args .ends .now) (args .face) (length (args .out .now))
-    (sym (c .before .triangles-refusal .ensures) ∙ c .if1 .left)
+    asked-face (args .coords .now) (args .corners .now) (args .ends .now) (args .face)
+    (sym (c .before .face-refusal .ensures) ∙ c .if1 .left)
 
-returns : tie.Need-returns
+not-sound : tie.Need-returns
 unfolding trianglesAnswer
-returns c =
+not-sound c =
     let start : tie.Start = search in
-    let out = start .args .out .now in
-    refused (c .before .triangles-refusal .ensures) (λ why. (Count.Refused why, out)) _ (c .if1 .taken)
+    let args = start .args in
+    let out = args .out .now in
+    refused (first-decides (args .coords .now) (args .corners .now) (args .ends .now) (args .face) (length out)
+    (c .before .face-refusal .ensures) (c .if1 .taken)) (λ why. (Count.Refused why, out)) _ (c .if1 .taken)
 
 face-by-number-requires : tie.Need-face-by-number-requires
 face-by-number-requires c κs = let at : tie.Else1 = search in (known at .ordered, known at .there)
+
+-- what the whole check answers past the first, by what the room says
+decides : (c : tie.Else1) (b : Bool) → let s : tie.Start = search in
+    b ≡ roomRefused (getD (facesOf (s .args .corners .now) (s .args .ends .now)) (s .args .face) []) (length (s .args .out .now))
+    → pick b 6 0 ≡ trianglesRefusal (s .args .coords .now) (s .args .corners .now) (s .args .ends .now) (s .args .face)
+    (length (s .args .out .now))
+decides c b =
+    let start : tie.Start = search in
+    let args = start .args in
+    room-decides (args .coords .now) (args .corners .now) (args .ends .now) (args .face) (length (args .out .now)) b
+    (c .before .face-refusal .ensures) (c .if1 .left)
+
+no-room : tie.Need-returns-2
+unfolding trianglesAnswer
+no-room c =
+    let start : tie.Start = search in
+    let at : tie.Else1 = search in
+    let found : tie.After-face-by-number = search in
+    let room = sym (c .if2 .taken) ∙ c .before .room-refused .ensures in
+    refused (decides at true (rw (found .face-by-number .ensures) at room)) (λ why. (Count.Refused why, start .args .out .now)) _
+    (λ e. absurd (omega (arith, e)))
 
 cut-requires : tie.Need-cut-requires
 cut-requires c κs =
     let at : tie.Else1 = search in
     let found : tie.After-face-by-number = search in
-    rw (found .face-by-number .ensures) (known at .inside, (known at .few, known at .fits))
+    let room : tie.Else2 = search in
+    let start : tie.Start = search in
+    let has-room = fits _ (length (start .args .out .now)) (sym (room .if2 .left) ∙ room .before .room-refused .ensures) in
+    rw (found .face-by-number .ensures) (known at .inside, (known at .few, rw (found .face-by-number .ensures) at has-room))
 
-returns-2 : tie.Need-returns-2
+cut-made : tie.Need-returns-3
 unfolding trianglesAnswer
-returns-2 c =
+cut-made c =
     let at : tie.Else1 = search in
     let found : tie.After-face-by-number = search in
+    let room : tie.Else2 = search in
     let made : tie.After-cut = search in
     let shown = rw (found .face-by-number .ensures) at (made .cut .ensures) in
-    passed (at .before .triangles-refusal .ensures) _ (at .if1 .left) (rw (shown .written, shown .count))
+    let has-room = sym (room .if2 .left) ∙ room .before .room-refused .ensures in
+    passed (decides at false (rw (found .face-by-number .ensures) at has-room)) _ refl (rw (shown .written, shown .count))
 
 pub triangles-spec : {M : Type 1} → statement M
 triangles-spec =
     tie.close
     (tie.spec
     (λ c κs. search needs)
-    returns
+    not-sound
     face-by-number-requires
+    (λ c κs. search needs)
+    no-room
     cut-requires
     (λ c. search needs)
-    returns-2)
+    cut-made)

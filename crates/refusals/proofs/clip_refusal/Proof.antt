@@ -1,4 +1,6 @@
-use mathlib.Core.Path.{sym, _∙_, refl}
+-- `refusals::clip_refusal` meets its contract: the planes' size, the work lists and the face are asked in the definition's order, and the
+-- first that refuses decides.
+use mathlib.Core.Path.{_≡_, sym, _∙_, refl}
 use native.Mathlib.Omega.{arith}
 use Rattle.cell.proofs.Refusals.{row-applies, row-passed, no-row}
 use Rattle.refusals.specs.Refusals.{clipRefusal}
@@ -7,16 +9,32 @@ use borrow.Author.Needs.{needs}
 use Rattle.refusals.proofs.clip_refusal.Statement.{statement}
 use Rattle.refusals.proofs.clip_refusal.Tie as tie
 
-pub clip-refusal-spec : {M : Type 1} → statement M
+too-many-planes : tie.Need-returns
 unfolding clipRefusal
+too-many-planes c = or-found _ (row-applies 1 _ (sym (c .before .planes-refused .ensures) ∙ c .if1 .taken)) (λ z. absurd (omega arith))
+
+work-lists : tie.Need-returns-2
+unfolding clipRefusal
+work-lists c =
+    let planes : tie.Else1 = search in
+    or-other _ (row-passed 1 _ (sym (planes .before .planes-refused .ensures) ∙ planes .if1 .left) no-row) refl
+    (or-found _ (c .before .works-refusal .ensures) (c .if2 .taken))
+
+the-face : tie.Need-returns-3
+unfolding clipRefusal
+the-face c =
+    let planes : tie.Else1 = search in
+    let lists : tie.Else2 = search in
+    or-other _ (row-passed 1 _ (sym (planes .before .planes-refused .ensures) ∙ planes .if1 .left) no-row) refl
+    (or-other _ (lists .before .works-refusal .ensures) (lists .if2 .left) (c .face-refusal .ensures))
+
+pub clip-refusal-spec : {M : Type 1} → statement M
 clip-refusal-spec =
     tie.close
     (tie.spec
     (λ c κs. search needs)
-    (λ c. or-found _ (row-applies 1 _ (sym (c .before .planes-refused .ensures) ∙ c .if1 .taken)) (λ z. absurd (omega arith)))
+    too-many-planes
     (λ c κs. search needs)
-    (λ c. or-other _ (row-passed 1 _ (sym (c .before .before .before .planes-refused .ensures) ∙ c .before .before .if1 .left) no-row) refl (or-found _ (c .before .works-refusal .ensures) (c .if2 .taken)))
-    (λ c. search needs)
-    (λ c. search needs)
+    work-lists
     (λ c κs. search needs)
-    (λ c. or-other _ (row-passed 1 _ (sym (c .before .before .before .before .before .before .planes-refused .ensures) ∙ c .before .before .before .before .before .if1 .left) no-row) refl (or-other _ (c .before .before .before .before .works-refusal .ensures) (c .before .before .before .if2 .left) (c .refusal .ensures))))
+    the-face)

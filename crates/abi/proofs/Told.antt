@@ -16,11 +16,8 @@ use Rattle.geometry.specs.declared.Done.{Done}
 use Rattle.geometry.specs.declared.Clipped.{Clipped}
 use Rattle.geometry.specs.Cells.{trianglesAnswer}
 use Rattle.geometry.specs.TurnFaces.{canTurnAnswer, TurnFacesGives}
-use Rattle.geometry.specs.Listed.{Listed, told, written, ofNumber, ofCount, ofDone, doneTold, ofShape, clippingTold, measureTold}
+use Rattle.geometry.specs.Listed.{Listed, Reply, told, written, ofNumber, ofCount, ofDone, doneTold, ofShape, clippingTold, measureTold}
 use Rattle.geometry.specs.Listed.{trianglesTold, codeWithoutRoom, TurnFacesTold}
-
-abbrev Told : Type 0
-Told = ℕ × List Float × List ℕ
 
 -- ---- beside the work lists
 pub shown-by : {c d : Clipped × List Float × List Float} → c ≡ d → (shown : List ℕ) {t : ℕ × List ℕ × List Float × List Float}
@@ -30,19 +27,19 @@ shown-by e shown p = p ∙ ap (λ x. clippingTold x shown) e
 pub measured-by : {a : Number} {first second : List Float} {answer : Number × List Float × List Float} → (a, first, second) ≡ answer
     → (out : List Float) {r : ℕ} {out′ : List Float} → told r out′ [] ≡ written (ofNumber a) out [] →
     (r, out′, first, second) ≡ measureTold answer out
-measured-by e out p = rw (← e, ap (λ (t : Told). t .0) p, ap (λ (t : Told). t .1) p)
+measured-by e out p = rw (← e, ap (λ (t : Reply). t .0) p, ap (λ (t : Reply). t .1) p)
 
 -- ---- beside a list that is turned
 pub done-by : {L : Type 0} {a : Done} {list : L} {answer : Done × L} {r : ℕ} → (a, list) ≡ answer → told r [] [] ≡ written (ofDone a) [] []
     → _≡_ {A = ℕ × L} (r, list) (doneTold answer)
-done-by e p = rw (← e, ap (λ (t : Told). t .0) p)
+done-by e p = rw (← e, ap (λ (t : Reply). t .0) p)
 
 -- ---- a fixed shape in one list
 module _ (n : ℕ) (p : List Float) (answer : Listed) (xs : List Float) (ns : List ℕ) where
   pub shape-refused : length p ≢ n → told 1 xs ns ≡ written (ofShape n p answer) xs ns
   shape-refused h = rw (ne-eqb (length p) n h)
 
-  pub shape-passed : {t : Told} → length p ≡ n → t ≡ written answer xs ns → t ≡ written (ofShape n p answer) xs ns
+  pub shape-passed : {t : Reply} → length p ≡ n → t ≡ written answer xs ns → t ≡ written (ofShape n p answer) xs ns
   shape-passed h e = rw (eq-eqb (length p) n h) e
 
 -- ---- triangles
@@ -58,13 +55,13 @@ module _ (coords : List Float) (corners ends : List ℕ) (k : ℕ) (out : List (
   pub triangles-short : (count : List ℕ) {r : ℕ} → length count < 1 → told r [] [] ≡ written (ofCount
       (trianglesAnswer coords corners ends k [] .0)) [] []
       → (r, out, count) ≡ trianglesTold coords corners ends k out count
-  triangles-short [] h e = rw (ap (λ (t : Told). t .0) e, ← ap (λ (t : Told). t .2) e)
+  triangles-short [] h e = rw (ap (λ (t : Reply). t .0) e, ← ap (λ (t : Reply). t .2) e)
   triangles-short (x ∷ xs) h e = absurd (omega arith)
 
   pub triangles-long : (count : List ℕ) {a : Count} {r : ℕ} {out′ : List (List ℕ)} {count′ : List ℕ} → 1 ≤ length count
       → (a, out′) ≡ trianglesAnswer coords corners ends k out → told r [] count′ ≡ written (ofCount a) [] count
       → (r, out′, count′) ≡ trianglesTold coords corners ends k out count
-  triangles-long count h e p = rw (le-ltb (length count) 1 h, ← e, ap (λ (t : Told). t .0) p, ap (λ (t : Told). t .2) p)
+  triangles-long count h e p = rw (le-ltb (length count) 1 h, ← e, ap (λ (t : Reply). t .0) p, ap (λ (t : Reply). t .2) p)
 
 -- ---- backward faces
 module _ (coords : List Float) (corners ends out : List ℕ) where

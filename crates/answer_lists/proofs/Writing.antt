@@ -12,7 +12,7 @@ use lib.Ieee.{Float}
 use borrow.Author.Tests.{lt-ltb, le-ltb}
 use Rattle.places.specs.Loops.{pick}
 use Rattle.geometry.specs.declared.Clipped.{Clipped}
-use Rattle.geometry.specs.Listed.{values, told, front, tooShort, written, ofClipped, hidden, clippingTold}
+use Rattle.geometry.specs.Listed.{values, Reply, told, front, tooShort, written, ofClipped, hidden, clippingTold}
 
 -- the first i values stand at the front of the list, and behind them what stood there before
 pub record Copied {A : Type 0} (vs before : List A) (i : ℕ) (list : List A) : Type 0 where
@@ -67,9 +67,6 @@ module _ (ms ns : List ℕ) where
   counts-put h e = rw (le-ltb (length ns) (length ms) h, e)
 
 -- ---- of numbers and counts together: into neither list unless both have the room
-abbrev Told : Type 0
-Told = ℕ × List Float × List ℕ
-
 module _ (vs : List Float) (ms : List ℕ) (xs : List Float) (ns : List ℕ) where
   pub both-first : length xs < length vs → told 6 xs ns ≡ written (values vs ms) xs ns
   both-first h = rw (lt-ltb (length xs) (length vs) h)
@@ -77,10 +74,10 @@ module _ (vs : List Float) (ms : List ℕ) (xs : List Float) (ns : List ℕ) whe
   -- the counts are told already
   module _ {code : ℕ} {after : List ℕ} (h : length vs ≤ length xs) (counts : told code [] after ≡ written (values [] ms) [] ns) where
     code-is : code ≡ written (values [] ms) [] ns .0
-    code-is = ap (λ (t : Told). t .0) counts
+    code-is = ap (λ (t : Reply). t .0) counts
 
     after-is : after ≡ written (values [] ms) [] ns .2
-    after-is = ap (λ (t : Told). t .2) counts
+    after-is = ap (λ (t : Reply). t .2) counts
 
     pub both-second : code ≢ 0 → told code xs after ≡ written (values vs ms) xs ns
     both-second n = go (tooShort ms ns) refl
@@ -100,11 +97,11 @@ module _ (vs : List Float) (ms : List ℕ) (xs : List Float) (ns : List ℕ) whe
 module _ (a : Clipped) (shown : List ℕ) (first second : List Float) where
   pub shown-long : {r : ℕ} {shown′ : List ℕ} → 2 ≤ length shown → told r [] shown′ ≡ written (ofClipped a) [] shown
       → (r, shown′, first, second) ≡ clippingTold (a, first, second) shown
-  shown-long h e = rw (ap (λ (t : Told). t .0) e, ap (λ (t : Told). t .2) e, le-ltb (length shown) 2 h)
+  shown-long h e = rw (ap (λ (t : Reply). t .0) e, ap (λ (t : Reply). t .2) e, le-ltb (length shown) 2 h)
 
 pub shown-short : (a : Clipped) (shown : List ℕ) (first second : List Float) {r : ℕ} {first′ second′ : List Float} → length shown < 2
     → told r [] [] ≡ written (ofClipped a) [] [] → first′ ≡ hidden a first → second′ ≡ hidden a second
     → (r, shown, first′, second′) ≡ clippingTold (a, first, second) shown
-shown-short Clipped.Nothing shown first second h e f s = rw (ap (λ (t : Told). t .0) e, f, s, lt-ltb (length shown) 2 h)
-shown-short (Clipped.Outline n b) shown first second h e f s = rw (ap (λ (t : Told). t .0) e, f, s, lt-ltb (length shown) 2 h)
-shown-short (Clipped.Refused why) shown first second h e f s = rw (ap (λ (t : Told). t .0) e, f, s, lt-ltb (length shown) 2 h)
+shown-short Clipped.Nothing shown first second h e f s = rw (ap (λ (t : Reply). t .0) e, f, s, lt-ltb (length shown) 2 h)
+shown-short (Clipped.Outline n b) shown first second h e f s = rw (ap (λ (t : Reply). t .0) e, f, s, lt-ltb (length shown) 2 h)
+shown-short (Clipped.Refused why) shown first second h e f s = rw (ap (λ (t : Reply). t .0) e, f, s, lt-ltb (length shown) 2 h)

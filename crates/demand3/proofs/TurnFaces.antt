@@ -33,7 +33,7 @@ use Rattle.refusals.specs.Refusals.{cellRefusal, turnFacesRefusal}
 use Rattle.geometry.specs.declared.Count.{Count}
 use Rattle.geometry.specs.Answers.{answered}
 use Rattle.geometry.specs.TurnFaces.{TurnFacesGives}
-use Rattle.geometry.specs.Listed.{told, written, ofCount, TurnFacesTold}
+use Rattle.geometry.specs.Listed.{Reply, told, written, ofCount, TurnFacesTold}
 use Rattle.demand3.specs.Demand3.{Premises, placeOf}
 use Rattle.demand3.specs.TurnFaces.{OneOutcome, OneOutcomeTold, RefusedLeaves, Success, Succeeds, ClosedAlready, TwiceIsOnce, OnlyFullCuts, WholeGroups, SignAlone, TurnFacesFacts}
 use Rattle.demand3.proofs.Demand3.{sums}
@@ -90,9 +90,6 @@ module _ (coords : List Float) (corners ends : List ℕ) where
   pub one-told : OneOutcomeTold coords corners ends
   one-told out code code′ after after′ told₁ told₂ t u = go (ltb (length out) 1) refl
     where
-      Heard : Type 0
-      Heard = ℕ × List Float × List ℕ
-
       go : (b : Bool) → ltb (length out) 1 ≡ b → (code ≡ code′) × (after ≡ after′) × (told₁ ≡ told₂)
       go true short =
           let p = t .untold short in
@@ -103,7 +100,7 @@ module _ (coords : List Float) (corners ends : List ℕ) where
           let q = u .turns long in
           let same = one (t .count) (u .count) after after′ (p .0) (q .0) in
           let heard : told code [] told₁ ≡ told code′ [] told₂ = p .1 ∙ ap (λ k. written (ofCount k) [] out) (same .0) ∙ sym (q .1) in
-          (ap (λ (h : Heard). h .0) heard, same .1, ap (λ (h : Heard). h .2) heard)
+          (ap (λ (h : Reply). h .0) heard, same .1, ap (λ (h : Reply). h .2) heard)
 
   -- ---- a refusal
   pub leaves : RefusedLeaves coords corners ends

@@ -42,12 +42,15 @@ abbrev pub front : {A : Type 0} → List A → List A → List A
 front vs list = vs ++ drop (length vs) list
 
 -- what a caller gets: a code, a list of numbers and a list of counts
-abbrev pub told : ℕ → List Float → List ℕ → ℕ × List Float × List ℕ
+abbrev pub Reply : Type 0
+Reply = ℕ × List Float × List ℕ
+
+abbrev pub told : ℕ → List Float → List ℕ → Reply
 told code xs ns = (code, xs, ns)
 
--- what a caller gets who lends a list for numbers and one for counts: the code, and what then stands in both.
+-- the reply to a caller who lends a list for numbers and one for counts: the code, and what then stands in both.
 -- Where either is too short the code is 6; on every refusal both lists are as they were.
-abbrev pub written : Listed → List Float → List ℕ → ℕ × List Float × List ℕ
+abbrev pub written : Listed → List Float → List ℕ → Reply
 written (refused why) xs ns = told why xs ns
 written (values vs ms) xs ns = pick (tooShort vs xs || tooShort ms ns) (told 6 xs ns) (told 0 (front vs xs) (front ms ns))
 

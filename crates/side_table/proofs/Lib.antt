@@ -1,4 +1,5 @@
 pub mod Corners
 pub mod Counted
-pub mod Room
+pub mod Mentioned
 pub mod Numbers
+pub mod Room

@@ -10,7 +10,9 @@ use lib.ListN.{length, getD, set, length-set, replicate, length-replicate, getD-
 use lib.Seq.{getD-set-same, getD-set-other}
 use borrow.Author.Tests.{eq-eqb, ne-eqb}
 use Rattle.places.specs.Lists.{Each}
-use Rattle.side_table.specs.Numbers.{Known, unnamed, Numbering, Named, entryOf}
+use Rattle.places.proofs.Loops.{Taking, take-start, take-next, take-end}
+use Rattle.side_table.specs.Numbers.{Known, unnamed, Numbering, mention, mentioned, Follows, Named, entryOf}
+use Rattle.side_table.proofs.Mentioned.{follows-still, follows-more, follows-nobody}
 use Rattle.side_table.proofs.Counted.{Tells}
 
 -- ---- one more has a number
@@ -22,7 +24,12 @@ named-one (a ∷ number) (suc x) w h e n = omega (arith, named-one number x w (o
 module _ {number : List ℕ} {k x : ℕ} (g : Numbering number k) (h : x < 256) where
   -- the vertex has one already
   pub already : getD number x 0 ≢ 256 → Named number k x number k
-  already n = record { still = g; kept = λ y i. i; known = record { within = omega (arith, g .size); told = g .told x h n } }
+  already n = record {
+    still = g;
+    kept = λ y i. i;
+    known = record { within = omega (arith, g .size); told = g .told x h n };
+    mentions = λ vs f. follows-still g h f n;
+  }
 
   -- the vertex gets the number k
   module _ (e : getD number x 0 ≡ 256) where
@@ -72,6 +79,7 @@ module _ {number : List ℕ} {k x : ℕ} (g : Numbering number k) (h : x < 256) 
       };
       kept = λ y i. record { within = rw length-set (i .within); told = kept′ y i (ℕ-discrete y x) };
       known = record { within = rw length-set inside; told = rw here (omega arith) };
+      mentions = λ vs f. follows-more g h f e small;
     }
 
 -- ---- the corners seen so far
@@ -79,21 +87,41 @@ pub record Seen (number : List ℕ) (k : ℕ) (corners : List ℕ) (i : ℕ) : T
   pub within : i ≤ length corners
   pub numbering : Numbering number k
   pub known : (j : ℕ) → j < i → Known number k (getD corners j 0)
+  pub so-far : List ℕ
+  pub taking : Taking mention corners (mentioned corners) i so-far
+  pub follows : Follows number k so-far
 
-pub seen-none : {number : List ℕ} {k : ℕ} (corners : List ℕ) → Numbering number k → Seen number k corners 0
-seen-none corners g = record { within = omega arith; numbering = g; known = λ j h. absurd (omega arith) }
+pub seen-none : {number : List ℕ} (corners : List ℕ) → Numbering number 0 → Seen number 0 corners 0
+unfolding mentioned
+seen-none corners g = record {
+  within = omega arith;
+  numbering = g;
+  known = λ j h. absurd (omega arith);
+  so-far = [];
+  taking = take-start refl;
+  follows = follows-nobody g;
+}
 
 pub seen-more : {number number′ corners : List ℕ} {k k′ i x : ℕ} → Seen number k corners i → i < length corners → x ≡ getD corners i 0
     → Named number k x number′ k′ → Seen number′ k′ corners (i + 1)
 seen-more {number} {number′} {corners} {k} {k′} {i} {x} s h e n =
-    record { within = omega arith; numbering = n .still; known = λ j q. go j q (ℕ-discrete j i) }
+    record {
+      within = omega arith;
+      numbering = n .still;
+      known = λ j q. go j q (ℕ-discrete j i);
+      so-far = mention x (s .so-far);
+      taking = take-next 0 (s .taking) h (rw e);
+      follows = n .mentions (s .so-far) (s .follows);
+    }
   where
     go : (j : ℕ) → j < i + 1 → Dec (j ≡ i) → Known number′ k′ (getD corners j 0)
     go j q (yes p) = rw (p, ← e) (n .known)
     go j q (no p) = n .kept (getD corners j 0) (s .known j (omega arith))
 
-pub seen-all : {number corners : List ℕ} {k i : ℕ} → Seen number k corners i → length corners ≤ i → Numbering number k × Each 0 (Known number k) corners
-seen-all s h = (s .numbering, record { holds = λ j q. s .known j (omega arith) })
+pub seen-all : {number corners : List ℕ} {k i : ℕ} → Seen number k corners i → length corners ≤ i
+    → Numbering number k × Each 0 (Known number k) corners × Follows number k (mentioned corners)
+seen-all s h =
+    (s .numbering, record { holds = λ j q. s .known j (omega arith) }, rw (take-end (s .taking) h) at (s .follows))
 
 -- ---- no vertex has a number
 blank-names : (n : ℕ) → unnamed (replicate n 256) ≡ n

@@ -1,12 +1,13 @@
 -- Numbers for the vertices that occur: 0, 1, 2 .. in the order of first mention. A vertex without a number has 256 in its place.
 use mathlib.Core.Path.{_≡_}
 use mathlib.Core.Logic.{_≢_}
-use mathlib.Core.List.{List, [], _∷_}
+use mathlib.Core.List.{List, [], _∷_, _++_}
 use Prim.Native.Nat.{ℕ, _+_, _*_, _<_, _≤_}
 use lib.Dec.{T, eqb}
 use lib.ListN.{length, getD}
 use Rattle.places.specs.Limits.{mostVertices, mostCorners}
 use Rattle.places.specs.Lists.{Each}
+use Rattle.places.specs.Loops.{pick, anyOf, foldList}
 use Rattle.exact.specs.Sides.{bit}
 use Rattle.cell.specs.Faces.{rises}
 
@@ -27,11 +28,26 @@ pub record Numbering (number : List ℕ) (k : ℕ) : Type 0 where
   pub told : (x : ℕ) → x < mostVertices → getD number x 0 ≢ 256 → getD number x 0 < k
   pub apart : (x y : ℕ) → x < mostVertices → y < mostVertices → getD number x 0 ≢ 256 → getD number x 0 ≡ getD number y 0 → x ≡ y
 
--- after the vertex x is seen: it has a number, and who had one has one
+-- the list with x at its end, unless x is in it
+abbrev pub mention : ℕ → List ℕ → List ℕ
+mention x vs = pick (anyOf (eqb x) vs) vs (vs ++ x ∷ [])
+
+-- the vertices of a corner list, each once, in the order of first mention
+unfoldable pub mentioned : List ℕ → List ℕ
+mentioned corners = foldList mention corners []
+
+-- the k numbers follow a list of vertices: the vertex at place i has the number i, and no other vertex has a number
+pub record Follows (number : List ℕ) (k : ℕ) (vs : List ℕ) : Type 0 where
+  pub count : k ≡ length vs
+  pub placed : (i : ℕ) → i < k → getD number (getD vs i 0) 0 ≡ i
+  pub told : (x : ℕ) → x < mostVertices → getD number x 0 ≢ 256 → getD vs (getD number x 0) 0 ≡ x
+
+-- after the vertex x is seen: it has a number, who had one has one, and numbers that followed a list follow it with x mentioned
 pub record Named (number : List ℕ) (k x : ℕ) (number′ : List ℕ) (k′ : ℕ) : Type 0 where
   pub still : Numbering number′ k′
   pub kept : (y : ℕ) → Known number k y → Known number′ k′ y
   pub known : Known number′ k′ x
+  pub mentions : (vs : List ℕ) → Follows number k vs → Follows number′ k′ (mention x vs)
 
 -- the table's entry for the sides from a to b: the row of a's number, the column of b's
 unfoldable pub entryOf : List ℕ → ℕ → ℕ → ℕ → ℕ

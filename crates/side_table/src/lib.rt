@@ -7,7 +7,7 @@ ghost use Rattle.places.specs.Limits.{mostVertices};
 ghost use Rattle.places.specs.Lists.{Each};
 ghost use Rattle.cell.specs.Faces.{facesOf};
 ghost use Rattle.side_table.specs.Table.{countSide, countFace, countFaces, Room};
-ghost use Rattle.side_table.specs.Numbers.{Known, Numbering, Named, Numbered, entryOf};
+ghost use Rattle.side_table.specs.Numbers.{Known, Numbering, mentioned, Follows, Named, Numbered, entryOf};
 
 // The vertex x gets the number k unless it has one. What comes back is how many have one now.
 fn number_vertex(number: &mut [u16], k: usize, x: usize) -> usize
@@ -24,7 +24,8 @@ fn number_vertex(number: &mut [u16], k: usize, x: usize) -> usize
 // Each vertex that occurs gets a number, in the order of first mention. What comes back is how many there are.
 pub fn number_all(number: &mut [u16], corners: &[u32]) -> usize
     requires { ⌜ Numbering (now number) 0 × Each 0 (λ x. x < mostVertices) (now corners) ⌝ }
-    ensures { λ r. ⌜ Numbering (now (number .exit)) r × Each 0 (Known (now (number .exit)) r) (now (corners .entry)) ⌝ }
+    ensures { λ r. ⌜ Numbering (now (number .exit)) r × Each 0 (Known (now (number .exit)) r) (now (corners .entry))
+        × Follows (now (number .exit)) r (mentioned (now (corners .entry))) ⌝ }
 {
     let n = corners.len();
     let mut k = 0;

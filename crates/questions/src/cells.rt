@@ -1,10 +1,10 @@
 // The entries on a cell that are lent lists for numbers and for counts.
 use crate::unknown;
-use crate::words::argument;
-use crate::words::capped;
-use crate::words::low;
-use crate::words::lowest;
-use crate::words::word;
+use question_lists::words::argument;
+use question_lists::words::capped;
+use question_lists::words::low;
+use question_lists::words::lowest;
+use question_lists::words::word;
 
 // Numbers. The argument of the plane is the number of its face.
 pub fn measured(

@@ -6,15 +6,14 @@
 mod cells;
 mod clips;
 mod leaves;
-mod lent;
 mod points;
 mod turned;
-pub mod words;
 
-use words::capped;
-use words::part;
-use words::wide;
-use words::word;
+use question_lists::lent;
+use question_lists::words::capped;
+use question_lists::words::part;
+use question_lists::words::wide;
+use question_lists::words::word;
 
 // The stored lists of a question; those behind the numbers; those behind the counts.
 fn lists(q: &[u64]) -> &[u64] {

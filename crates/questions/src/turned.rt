@@ -2,12 +2,12 @@
 ghost use Prim.Native.Nat.{_≤_};
 ghost use lib.ListN.{length};
 use crate::answered;
-use crate::lent;
 use crate::others;
-use crate::words::capped;
-use crate::words::low;
-use crate::words::wide;
-use crate::words::word;
+use question_lists::lent;
+use question_lists::words::capped;
+use question_lists::words::low;
+use question_lists::words::wide;
+use question_lists::words::word;
 
 // Whether the code, the numbers and the counts are as stored, and one list more is stored beside them.
 fn answered_beside(q: &[u64], code: u8, values: &[f64], counts: &[usize]) -> bool {

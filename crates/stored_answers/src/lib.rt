@@ -7,7 +7,7 @@ mod text;
 ghost use Prim.Native.Nat.{_≤_, _<_};
 ghost use mathlib.Core.Path.{_≡_};
 ghost use lib.ListN.{length};
-use questions::words;
+use question_lists::words;
 
 // How many questions a line asks, and how many of them are answered otherwise than stored.
 pub struct Verdict {

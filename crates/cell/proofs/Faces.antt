@@ -1,4 +1,5 @@
--- Loops over the faces of a cell that keep the previous end, and faces by their number.
+-- Loops over the faces of a cell that keep the previous end (`Facing`, `FaceAsking`, `Falling`), for every room that goes over the faces;
+-- and faces by their number.
 use mathlib.Core.Path.{_≡_, refl, sym, _∙_, ap}
 use mathlib.Core.Bool.{Bool, true, false, not, _&&_, _||_}
 use mathlib.Core.List.{List, [], _∷_}
@@ -37,7 +38,11 @@ pub rises-more : (p : ℕ) (es : List ℕ) (n k e : ℕ) → k < length es → e
 rises-more p es n k e h q t =
     let u : T (leb p e && rises e (drop (suc k) es) n) = rw q (rw (drop-cons es k 0 h) at t) in
     let r : T (rises e (drop (suc k) es) n) = and-r (leb p e) (rises e (drop (suc k) es) n) u in
-    record { from = leb→le p e (and-l (leb p e) (rises e (drop (suc k) es) n) u); upto = rises-le e (drop (suc k) es) n r; rest = rw add-one r }
+    record {
+      from = leb→le p e (and-l (leb p e) (rises e (drop (suc k) es) n) u);
+      upto = rises-le e (drop (suc k) es) n r;
+      rest = rw add-one r;
+    }
 
 -- ---- a loop that takes in the faces: from face k, the previous end p and the state s on it comes to `whole`
 pub record Facing {S : Type 0} (f : List ℕ → S → S) (c es : List ℕ) (whole : S) (p k : ℕ) (s : S) : Type 0 where
@@ -54,7 +59,8 @@ module _ {S : Type 0} {f : List ℕ → S → S} {c es : List ℕ} {whole : S} w
   pub face-step : {p k : ℕ} {s : S} {e : ℕ} → Facing f c es whole p k s → k < length es → e ≡ getD es k 0 → Step p es (length c) k e
   face-step {p} {k} {s} {e} l h q = rises-more p es (length c) k e h q (l .ordered)
 
-  pub face-next : {p k : ℕ} {s s′ : S} {e : ℕ} → Facing f c es whole p k s → k < length es → e ≡ getD es k 0 → s′ ≡ f (slice p e c) s → Facing f c es whole e (k + 1) s′
+  pub face-next : {p k : ℕ} {s s′ : S} {e : ℕ} → Facing f c es whole p k s → k < length es → e ≡ getD es k 0 → s′ ≡ f (slice p e c) s
+      → Facing f c es whole e (k + 1) s′
   unfolding foldList
   face-next {p} {k} {s} {s′} {e} l h q g =
       record { within = omega arith; ordered = face-step l h q .rest; so = rw (g, q) (sym (rw (faces-more p c es k h)) ∙ l .so) }
@@ -81,15 +87,18 @@ module _ {test : List ℕ → Bool} {c es : List ℕ} {whole : Bool} where
   unfolding anyOf
   faces-yes {p} {k} {e} l h q g = sym (rw (faces-more p c es k h, ← q, g)) ∙ l .so
 
-  pub faces-no : {p k e : ℕ} → FaceAsking test c es whole p k → k < length es → e ≡ getD es k 0 → test (slice p e c) ≡ false → FaceAsking test c es whole e (k + 1)
+  pub faces-no : {p k e : ℕ} → FaceAsking test c es whole p k → k < length es → e ≡ getD es k 0 → test (slice p e c) ≡ false
+      → FaceAsking test c es whole e (k + 1)
   unfolding anyOf
-  faces-no {p} {k} {e} l h q g = record { within = omega arith; ordered = faces-step l h q .rest; so = sym (rw (faces-more p c es k h, ← q, g)) ∙ l .so }
+  faces-no {p} {k} {e} l h q g =
+      record { within = omega arith; ordered = faces-step l h q .rest; so = sym (rw (faces-more p c es k h, ← q, g)) ∙ l .so }
 
   pub faces-end : {p k : ℕ} → FaceAsking test c es whole p k → length es ≤ k → false ≡ whole
   unfolding anyOf
   faces-end {p} {k} l h = sym (rw (faces-none p c es k h)) ∙ l .so
 
--- ---- a loop that tests the ends: `fall` says whether one of those before face k falls, and with the ends from there and from the previous one p on it comes to `refused`
+-- ---- a loop that tests the ends: `fall` says whether one of those before face k falls, and with the ends from there and from the
+-- previous one p on it comes to `refused`
 pub record Falling (es : List ℕ) (n : ℕ) (refused : Bool) (fall : Bool) (p k : ℕ) : Type 0 where
   pub within : k ≤ length es
   pub so : fall || not (rises p (drop k es) n) ≡ refused
@@ -98,7 +107,8 @@ module _ {es : List ℕ} {n : ℕ} {refused : Bool} where
   pub falls-start : not (rises 0 es n) ≡ refused → Falling es n refused false 0 0
   falls-start e = record { within = zero-le; so = e }
 
-  pub falls-next : {fall fall′ : Bool} {p k e : ℕ} → Falling es n refused fall p k → k < length es → e ≡ getD es k 0 → fall′ ≡ fall || ltb e p → Falling es n refused fall′ e (k + 1)
+  pub falls-next : {fall fall′ : Bool} {p k e : ℕ} → Falling es n refused fall p k → k < length es → e ≡ getD es k 0
+      → fall′ ≡ fall || ltb e p → Falling es n refused fall′ e (k + 1)
   falls-next {fall} {fall′} {p} {k} {e} l h q f =
       let all : fall || not (leb p e && rises e (drop (k + 1) es) n) ≡ refused = rw (q, add-one) (rw (drop-cons es k 0 h) at (l .so)) in
       record { within = omega arith; so = rw f (one-more fall (rises e (drop (k + 1) es) n) (decLe p e) ∙ all) }

@@ -1,4 +1,5 @@
--- The first row that applies; and what is known of a cell that is not refused.
+-- The rows of a refusal table one after the other, for every function that answers with one; and what is known of a cell that no row
+-- refuses, for everybody who is given such a cell.
 use mathlib.Core.Path.{_≡_, refl, sym}
 use mathlib.Core.Bool.{Bool, true, false, not, _||_}
 use mathlib.Core.List.{List, [], _∷_}
@@ -14,7 +15,8 @@ use Rattle.places.specs.Lists.{Each}
 use Rattle.places.proofs.Stored.{length-threes}
 use Rattle.flat.specs.Points.{verticesOf}
 use Rattle.cell.specs.Faces.{rises}
-use Rattle.cell.specs.Refusals.{firstRow, outOfRange, notBelow, isEmpty, pointsRefused, sizeRefused, numberRefused, endsRefused, indexRefused, refusalOf}
+use Rattle.cell.specs.Refusals.{firstRow, outOfRange, notBelow, isEmpty, pointsRefused, sizeRefused, numberRefused}
+use Rattle.cell.specs.Refusals.{endsRefused, indexRefused, refusalOf}
 use Rattle.cell.specs.Steps.{Sound}
 
 -- ---- the first row that applies
@@ -45,14 +47,16 @@ or-none true b e = (e, cc)
 or-none false b e = (refl, e)
 
 -- ---- where the test holds of none, it fails at each place
-any-step : {A : Type 0} (test : A → Bool) (x : A) (l : List A) → pick (test x) true (anyOf test l) ≡ false → (test x ≡ false) × (anyOf test l ≡ false)
+any-step : {A : Type 0} (test : A → Bool) (x : A) (l : List A) → pick (test x) true (anyOf test l) ≡ false
+    → (test x ≡ false) × (anyOf test l ≡ false)
 any-step test x l e = go (test x) e
   where
     go : (b : Bool) → pick b true (anyOf test l) ≡ false → (b ≡ false) × (anyOf test l ≡ false)
     go true e = (e, cc)
     go false e = (refl, e)
 
-pub any-none : {A : Type 0} (test : A → Bool) (d : A) (l : List A) → anyOf test l ≡ false → (k : ℕ) → k < length l → test (getD l k d) ≡ false
+pub any-none : {A : Type 0} (test : A → Bool) (d : A) (l : List A) → anyOf test l ≡ false
+    → (k : ℕ) → k < length l → test (getD l k d) ≡ false
 unfolding anyOf
 any-none test d [] e k h = absurd (omega arith)
 any-none test d (x ∷ l) e zero h = any-step test x l e .0
@@ -124,7 +128,8 @@ counted coords e =
 pub few-points : (coords : List Float) → pointsRefused coords ≡ false → length coords / 3 < 4294967296
 few-points coords h = omega (arith, counted coords h .few, length-threes coords)
 
-pub few-of-all : (coords : List Float) (corners ends : List ℕ) → sizeRefused coords corners ends ≡ false → (length coords / 3 < 4294967296) × (length ends < 4294967296)
+pub few-of-all : (coords : List Float) (corners ends : List ℕ) → sizeRefused coords corners ends ≡ false
+    → (length coords / 3 < 4294967296) × (length ends < 4294967296)
 unfolding sizeRefused
 few-of-all coords corners ends h =
     let a = or-none (pointsRefused coords) (ltb 256 (length ends) || ltb 2048 (length corners)) h in

@@ -21,7 +21,8 @@ firstRow (row ∷ rows) =
 abbrev pub limit : Float
 limit = ofBits binary64 0x4270_0000_0000_0000
 
--- a number is NaN, infinite or above 2 ^ 40 in magnitude: it is not from −2 ^ 40 to 2 ^ 40, with which a NaN does not compare; −0 and 2 ^ 40 itself are
+-- a number is NaN, infinite or above 2 ^ 40 in magnitude: it is not from −2 ^ 40 to 2 ^ 40, with which a NaN does not compare;
+-- −0 and 2 ^ 40 itself are
 unfoldable pub outOfRange : Float → Bool
 outOfRange x = not (le (neg limit) x && le x limit)
 
@@ -61,7 +62,8 @@ indexRefused n cs = anyOf (notBelow n) cs
 unfoldable pub emptyRefused : List ℕ → List ℕ → Bool
 emptyRefused corners ends = anyOf isEmpty (facesOf corners ends)
 
--- why a cell is refused, 0 where it is not: `query` are query values, judged with the coordinates, and `asked` the numbers of faces that are asked for
+-- why a cell is refused, 0 where it is not: `query` are query values, judged with the coordinates, and `asked` the numbers of faces that
+-- are asked for
 unfoldable pub refusalOf : List Float → List ℕ → List ℕ → List Float → List ℕ → ℕ
 refusalOf coords corners ends query asked =
     firstRow (

@@ -6,8 +6,10 @@ ghost use mathlib.Core.List.{[], _∷_};
 ghost use lib.ListN.{length, getD};
 ghost use lib.Seq.{slice};
 ghost use lib.Dec.{T};
+ghost use Rattle.places.specs.Lent.{old};
 ghost use Rattle.cell.specs.Faces.{facesOf, rises};
-ghost use Rattle.cell.specs.Refusals.{outOfRange, pointsRefused, sizeRefused, numberRefused, endsRefused, indexRefused, emptyRefused, refusalOf};
+ghost use Rattle.cell.specs.Refusals.{outOfRange, pointsRefused, sizeRefused, numberRefused, endsRefused, indexRefused};
+ghost use Rattle.cell.specs.Refusals.{emptyRefused, refusalOf};
 
 // A face is shown as its own stretch of the lent corner list.
 pub fn face(corners: &[u32], start: usize, end: usize) -> &[u32]
@@ -157,9 +159,10 @@ pub fn empty_refused(corners: &[u32], ends: &[u32]) -> bool
     false
 }
 
-// Why a cell is refused, 0 where it is not. Query values are judged with the coordinates; `asked` are numbers of faces that are asked for.
+// Why a cell is refused, 0 where it is not. Query values are judged with the coordinates; `asked` are the numbers of faces that are asked
+// for.
 pub fn refusal(coords: &[f64], corners: &[u32], ends: &[u32], query: &[f64], asked: &[u32]) -> u8
-    ensures { λ r. ⌜ r ≡ refusalOf (now (coords .entry)) (now (corners .entry)) (now (ends .entry)) (now (query .entry)) (now (asked .entry)) ⌝ }
+    ensures { λ r. ⌜ r ≡ refusalOf (old coords) (old corners) (old ends) (old query) (old asked) ⌝ }
 {
     if size_refused(coords, corners, ends) {
         return 1;

@@ -47,9 +47,13 @@ fn take_in(
 ) -> Fed
     requires { ⌜ Sized (now coords) (now corners) (now ends) (now queries) ⌝ }
     requires { ⌜ Fits t ⌝ }
-    requires { ⌜ (t .number + 65536 < 2 ^ 64) × (came .waited + came .bytes ≤ length (now block)) × (length (now block) ≡ 65536) × (524288 ≤ length (now out)) ⌝ }
+    requires { ⌜ (t .number + 65536 < 2 ^ 64) × (came .waited + came .bytes ≤ length (now block))
+        × (length (now block) ≡ 65536) × (524288 ≤ length (now out)) ⌝ }
     ensures { λ d. ⌜ Fits (d .tally) × (d .tally .number ≤ t .number + 2048) × (d .have < 32) × (d .made ≤ length (now (out .entry))) ⌝ }
-    ensures { λ d. ⌜ Takes (heldOf t (now (coords .entry)) (now (corners .entry)) (now (ends .entry)) (now (queries .entry))) (take (came .waited) (now (block .entry))) (take (came .bytes) (drop (came .waited) (now (block .entry)))) (heldOf (d .tally) (now (coords .exit)) (now (corners .exit)) (now (ends .exit)) (now (queries .exit))) (take (d .have) (now (block .exit))) (take (d .made) (now (out .exit))) ⌝ }
+    ensures { λ d. ⌜ Takes (heldOf t (now (coords .entry)) (now (corners .entry)) (now (ends .entry)) (now (queries .entry)))
+        (take (came .waited) (now (block .entry))) (take (came .bytes) (drop (came .waited) (now (block .entry))))
+        (heldOf (d .tally) (now (coords .exit)) (now (corners .exit)) (now (ends .exit)) (now (queries .exit)))
+        (take (d .have) (now (block .exit))) (take (d .made) (now (out .exit))) ⌝ }
 {
     let total = came.waited + came.bytes;
     feed(t, total, block, coords, corners, ends, queries, out)
@@ -111,7 +115,10 @@ fn read_once(
     requires { ⌜ (t .number + 65536 < 2 ^ 64) × (have < 32) × (length (now block) ≡ 65536) × (524288 ≤ length (now out)) ⌝ }
     requires { ⌜ Running (heldOf t (now coords) (now corners) (now ends) (now queries)) (take have (now block)) ⌝ }
     ensures { λ w. ⌜ Fits (w .tally) × (w .tally .number ≤ t .number + 2048) × (w .have < 32) ⌝ }
-    ensures { λ w. ⌜ WentOn (heldOf t (now (coords .entry)) (now (corners .entry)) (now (ends .entry)) (now (queries .entry))) (take have (now (block .entry))) (heldOf (w .tally) (now (coords .exit)) (now (corners .exit)) (now (ends .exit)) (now (queries .exit))) (take (w .have) (now (block .exit))) (take (w .made) (now (out .exit))) ⌝ }
+    ensures { λ w. ⌜ WentOn (heldOf t (now (coords .entry)) (now (corners .entry)) (now (ends .entry)) (now (queries .entry)))
+        (take have (now (block .entry)))
+        (heldOf (w .tally) (now (coords .exit)) (now (corners .exit)) (now (ends .exit)) (now (queries .exit)))
+        (take (w .have) (now (block .exit))) (take (w .made) (now (out .exit))) ⌝ }
 {
     let came = read_more(block, have);
     if came.failed {

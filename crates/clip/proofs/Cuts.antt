@@ -1,4 +1,5 @@
--- What a cut leaves: a stretch was laid down, and its points without the doubled ones stand at its front. And what a plane makes of an outline, by how many of its points are out.
+-- What a cut leaves: a stretch was laid down, and its points without the doubled ones stand at its front.
+-- And what a plane makes of an outline, by how many of its points are out.
 use mathlib.Core.Path.{_≡_, refl, ap, _∙_}
 use mathlib.Core.Bool.{Bool, true, false}
 use mathlib.Core.List.{List, _++_}
@@ -20,18 +21,21 @@ use Rattle.work_lists.proofs.Filling.{filled-read, filled-over, filled-within}
 use Rattle.clip_step.specs.Doubled.{withoutDoubled}
 use Rattle.clip.specs.Clip.{beyond, cutChange, slice, planeChange}
 
-pub cut-full : {room m : ℕ} {cut before after list : List Point} → Filled cut 0 before m after → room < m → Shows room (cutChange room cut) Full list
+pub cut-full : {room m : ℕ} {cut before after list : List Point} → Filled cut 0 before m after → room < m
+    → Shows room (cutChange room cut) Full list
 unfolding cutChange
 cut-full f h = rw (filled-over f h) shows-full
 
-module _ {room m left : ℕ} {cut before : List Point} (after front : List Float) (f : Filled cut 0 before m (inThrees after)) (h : m ≤ room) (g : room ≤ length before)
-    (e : (left ≡ length (withoutDoubled (inThrees (take (m * 3) after)))) × (take left (inThrees front) ≡ withoutDoubled (inThrees (take (m * 3) after)))) where
+-- m points of the cut were laid down and have room; of that stretch `front` is what dropping doubled points left, with `left` points
+module _ {room m left : ℕ} {cut before : List Point} (after front : List Float) (f : Filled cut 0 before m (inThrees after))
+    (h : m ≤ room) (g : room ≤ length before) (count : left ≡ length (withoutDoubled (inThrees (take (m * 3) after))))
+    (stands : take left (inThrees front) ≡ withoutDoubled (inThrees (take (m * 3) after))) where
   -- the stretch is the whole cut
   part-is : inThrees (take (m * 3) after) ≡ cut
   part-is = threes-take m after ∙ filled-read f (omega arith)
 
   count-is : left ≡ length (withoutDoubled cut)
-  count-is = rw part-is at (e .0)
+  count-is = rw part-is at count
 
   pub cut-gone : {list : List Point} → left < 3 → Shows room (cutChange room cut) Gone list
   unfolding cutChange
@@ -40,19 +44,19 @@ module _ {room m left : ℕ} {cut before : List Point} (after front : List Float
   pub cut-made : 3 ≤ left → length front ≡ m * 3 → Shows room (cutChange room cut) (Made left) (inThrees (front ++ drop (m * 3) after))
   unfolding cutChange
   cut-made l n =
-      let w : left ≤ length (inThrees front) = omega (arith, length-take left (inThrees front), ap length (e .1), e .0) in
-      let s : take left (inThrees (front ++ drop (m * 3) after)) ≡ withoutDoubled cut = rw (threes-front m front after n, take-append-le, ← part-is) (e .1) in
+      let w : left ≤ length (inThrees front) = omega (arith, length-take left (inThrees front), ap length stands, count) in
+      let s : take left (inThrees (front ++ drop (m * 3) after)) ≡ withoutDoubled cut =
+      rw (threes-front m front after n, take-append-le, ← part-is) stands in
       rw (filled-within f h, ← count-is, le-ltb left 3 l) (shows-made {n = left} (omega (arith, length-threes front)) s)
 
 -- ---- an outline of n points in the first list or in the second
-pub stretch-some : (n : ℕ) (s : List Float) → 0 < n → n ≤ length (inThrees s) → 0 < length (inThrees (take (n * 3) s))
-stretch-some n s h g = rw (threes-take n s, length-take-le n (inThrees s) g) h
-
-pub shown-is : (second : Bool) (n : ℕ) (a b : List Float) → inThrees (take (n * 3) (pick second b a)) ≡ take n (pick second (inThrees b) (inThrees a))
+pub shown-is : (second : Bool) (n : ℕ) (a b : List Float)
+    → inThrees (take (n * 3) (pick second b a)) ≡ take n (pick second (inThrees b) (inThrees a))
 shown-is true n a b = threes-take n b
 shown-is false n a b = threes-take n a
 
-pub stretch-fits : (second : Bool) (n : ℕ) (a b : List Float) → n ≤ length (inThrees a) → n ≤ length (inThrees b) → n * 3 ≤ length (pick second b a)
+pub stretch-fits : (second : Bool) (n : ℕ) (a b : List Float) → n ≤ length (inThrees a) → n ≤ length (inThrees b)
+    → n * 3 ≤ length (pick second b a)
 stretch-fits true n a b h g = omega (arith, length-threes b)
 stretch-fits false n a b h g = omega (arith, length-threes a)
 
@@ -60,21 +64,31 @@ outline-length : (second : Bool) (n : ℕ) (a b : List Point) → n ≤ length a
 outline-length true n a b h g = length-take-le n b g
 outline-length false n a b h g = length-take-le n a h
 
-module _ (room n : ℕ) (eps : Float) (plane : Plane) (second : Bool) (a b : List Point) (h : n ≤ length a) (g : n ≤ length b) where
+module _ {room n : ℕ} (eps : Float) {plane : Plane} {second : Bool} {a b : List Point} (h : n ≤ length a) (g : n ≤ length b) where
   -- neither list is written to where the plane makes no cut
+  still : {r : Step} → Shows room (planeChange room eps plane (take n (pick second b a))) r (pick second a b)
+      → Moved room (planeChange room eps) plane n second a b r a b
+  still s = record { shows = s; same = refl; long = refl }
+
   pub none-few : n < 3 → Moved room (planeChange room eps) plane n second a b Gone a b
   unfolding planeChange
-  none-few l = record { shows = rw (outline-length second n a b h g, lt-ltb n 3 l) shows-gone; same = refl; long = refl }
+  none-few l = still (rw (outline-length second n a b h g, lt-ltb n 3 l) shows-gone)
 
   module _ {out : ℕ} (l : 3 ≤ n) (e : out ≡ countOf (beyond plane eps) (take n (pick second b a))) where
     pub none-out : out ≡ 0 → Moved room (planeChange room eps) plane n second a b Kept a b
     unfolding planeChange
-    none-out z = record { shows = rw (outline-length second n a b h g, le-ltb n 3 l, ← e, eq-eqb out 0 z) shows-whole; same = refl; long = refl }
+    none-out z = still (rw (outline-length second n a b h g, le-ltb n 3 l, ← e, eq-eqb out 0 z) shows-whole)
 
     pub all-out : ¬ (out ≡ 0) → out ≡ n → Moved room (planeChange room eps) plane n second a b Gone a b
     unfolding planeChange
-    all-out z w = record { shows = rw (outline-length second n a b h g, le-ltb n 3 l, ← e, ne-eqb out 0 z, eq-eqb out n w) shows-gone; same = refl; long = refl }
+    all-out z w = still (rw (outline-length second n a b h g, le-ltb n 3 l, ← e, ne-eqb out 0 z, eq-eqb out n w) shows-gone)
 
-    pub some-out : {r : Step} {a′ b′ : List Point} → ¬ (out ≡ 0) → ¬ (out ≡ n) → Moved room (slice room eps) plane n second a b r a′ b′ → Moved room (planeChange room eps) plane n second a b r a′ b′
+    pub some-out : {r : Step} {a′ b′ : List Point} → ¬ (out ≡ 0) → ¬ (out ≡ n) → Moved room (slice room eps) plane n second a b r a′ b′
+        → Moved room (planeChange room eps) plane n second a b r a′ b′
     unfolding planeChange
-    some-out z w m = record { shows = rw (outline-length second n a b h g, le-ltb n 3 l, ← e, ne-eqb out 0 z, ne-eqb out n w) (m .shows); same = m .same; long = m .long }
+    some-out z w m =
+        record {
+          shows = rw (outline-length second n a b h g, le-ltb n 3 l, ← e, ne-eqb out 0 z, ne-eqb out n w) (m .shows);
+          same = m .same;
+          long = m .long;
+        }

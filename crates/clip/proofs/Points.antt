@@ -1,5 +1,5 @@
 -- A clipping of an outline that has points never ends with an outline of 0 points: a plane that cuts leaves at least 3.
-use mathlib.Core.Bool.{Bool, true, false, not}
+use mathlib.Core.Bool.{Bool, true, false}
 use mathlib.Core.List.{List, [], _∷_}
 use Prim.Native.Nat.{ℕ, _<_}
 use native.Mathlib.Omega.{arith}
@@ -9,10 +9,10 @@ use lib.Ieee.{Float}
 use Rattle.places.specs.Loops.{pick, countOf}
 use Rattle.flat.specs.Points.{Point}
 use Rattle.planes.specs.declared.Plane.{Plane}
-use Rattle.work_lists.specs.WorkLists.{Change, whole, gone, full, made, Outcome, nothing, noRoom, outline, afterwards, runOf, clippedOf}
+use Rattle.work_lists.specs.WorkLists.{Change, whole, gone, full, made, Outcome, nothing, noRoom, outline, leftBy, runOf, clippedOf}
 use Rattle.clip_step.specs.ClipStep.{trimmedBy}
 use Rattle.clip_step.specs.Doubled.{withoutDoubled}
-use Rattle.clip.specs.Clip.{beyond, cutChange, slice, planeChange, clipFaceOf}
+use Rattle.clip.specs.Clip.{beyond, cutChange, planeChange, clipFaceOf}
 
 -- where a plane made another outline it has points, and where an outline is left it has
 pub data MadePoints : Change → Type 0 where
@@ -52,22 +52,22 @@ plane-points room eps plane ps =
     made-either (ltb (length ps) 3) made-gone (made-either (eqb out 0) made-whole (made-either (eqb out (length ps)) made-gone cut))
 
 -- ---- all planes, one after the other
-after-points : {c : Change} {same : Outcome} (next : List Point → Outcome)
-    → MadePoints c → LeftPoints same → ((ps : List Point) → 0 < length ps → LeftPoints (next ps)) → LeftPoints (afterwards c same next)
-after-points next made-whole s n = s
-after-points next made-gone s n = left-nothing
-after-points next made-full s n = left-no-room
-after-points next (made-some {ps = ps} h) s n = n ps h
+left-points : {c : Change} (second : Bool) (ps : List Point) → MadePoints c → 0 < length ps → LeftPoints (leftBy c second ps)
+left-points second ps made-whole h = left-some h
+left-points second ps made-gone h = left-nothing
+left-points second ps made-full h = left-no-room
+left-points second ps (made-some g) h = left-some g
 
-run-points : (room : ℕ) (eps : Float) (planes : List Plane) (second : Bool) (ps : List Point) → 0 < length ps
-    → LeftPoints (runOf (planeChange room eps) planes second ps)
+run-points : (room : ℕ) (eps : Float) (planes : List Plane) {o : Outcome} → LeftPoints o
+    → LeftPoints (runOf (planeChange room eps) planes o)
 unfolding runOf
-run-points room eps [] second ps h = left-some h
-run-points room eps (plane ∷ planes) second ps h =
-    after-points (λ qs. runOf (planeChange room eps) planes (not second) qs) (plane-points room eps plane ps)
-    (run-points room eps planes second ps h) (λ qs g. run-points room eps planes (not second) qs g)
+run-points room eps [] h = h
+run-points room eps (plane ∷ planes) left-nothing = left-nothing
+run-points room eps (plane ∷ planes) left-no-room = left-no-room
+run-points room eps (plane ∷ planes) (left-some {second = second} {ps = ps} h) =
+    run-points room eps planes (left-points second ps (plane-points room eps plane ps) h)
 
 pub clip-points : (room : ℕ) (eps : Float) (planes : List Plane) (ps : List Point) → 0 < length ps
     → LeftPoints (clipFaceOf room eps planes ps)
 unfolding clipFaceOf clippedOf
-clip-points room eps planes ps h = left-either (ltb room (length ps)) left-no-room (run-points room eps planes false ps h)
+clip-points room eps planes ps h = left-either (ltb room (length ps)) left-no-room (run-points room eps planes (left-some h))

@@ -27,7 +27,8 @@ cutChange room cut =
 abbrev pub slice : ℕ → Float → Plane → List Point → Change
 slice room eps plane ps = cutChange room (trimmedBy plane eps ps)
 
--- what a plane makes of an outline: nothing of one under 3 points; it stays whole where no point is out, and goes where all are; else it is cut
+-- what a plane makes of an outline: nothing of one under 3 points; it stays whole where no point is out, and goes where all are;
+-- else it is cut
 unfoldable pub planeChange : ℕ → Float → Plane → List Point → Change
 planeChange room eps plane ps =
     let out = countOf (beyond plane eps) ps in

@@ -6,19 +6,20 @@ ghost use mathlib.Core.Path.{_≡_};
 ghost use mathlib.Core.Bool.{Bool, true, false, not};
 ghost use Prim.Native.Nat.{_<_, _≤_};
 ghost use lib.ListN.{length, take};
+ghost use Rattle.places.specs.Lent.{old, new};
 ghost use Rattle.places.specs.Limits.{mostCorners, mostWorkNumbers};
 ghost use Rattle.places.specs.Loops.{pick, countOf};
 ghost use Rattle.flat.specs.Points.{verticesOf, cornersOf};
 ghost use Rattle.flat.specs.Steps.{Inside};
 ghost use Rattle.planes.specs.Planes.{inFours};
-ghost use Rattle.work_lists.specs.WorkLists.{runOf, shorterOf};
+ghost use Rattle.work_lists.specs.WorkLists.{outline, runOf, shorterOf};
 ghost use Rattle.work_lists.specs.Steps.{Ended, Settled, Shows, Moved};
 ghost use Rattle.clip_step.specs.ClipStep.{trimmedBy};
 ghost use Rattle.clip.specs.Clip.{beyond, cutChange, slice, planeChange, clipFaceOf};
 
 // How many points of an outline are beyond a plane.
 fn count_out(src: &[f64], plane: Plane, eps: f64) -> usize
-    ensures { λ r. ⌜ r ≡ countOf (beyond plane eps) (verticesOf (now (src .entry))) ⌝ }
+    ensures { λ r. ⌜ r ≡ countOf (beyond plane eps) (verticesOf (old src)) ⌝ }
 {
     let n = src.len() / 3;
     let mut out = 0;
@@ -37,7 +38,7 @@ fn cut(src: &[f64], dst: &mut [f64], room: usize, plane: Plane, eps: f64) -> Ste
     requires { ⌜ 0 < length (verticesOf (now src)) ⌝ }
     requires { ⌜ (length (now src) ≤ mostWorkNumbers) × (length (now dst) ≤ mostWorkNumbers) ⌝ }
     requires { ⌜ room ≤ length (verticesOf (now dst)) ⌝ }
-    ensures { λ r. ⌜ Shows room (cutChange room (trimmedBy plane eps (verticesOf (now (src .entry))))) r (verticesOf (now (dst .exit))) ⌝ }
+    ensures { λ r. ⌜ Shows room (cutChange room (trimmedBy plane eps (verticesOf (old src)))) r (verticesOf (new dst)) ⌝ }
 {
     let m = clip_step::trim_by_plane(src, dst, plane, eps);
     if room < m {
@@ -62,7 +63,8 @@ fn cut_from(
 ) -> Step
     requires { ⌜ (length (now first) ≤ mostWorkNumbers) × (length (now second) ≤ mostWorkNumbers) ⌝ }
     requires { ⌜ (0 < n) × (n ≤ room) × (room ≤ length (verticesOf (now first))) × (room ≤ length (verticesOf (now second))) ⌝ }
-    ensures { λ r. ⌜ Moved room (slice room eps) plane n in_second (verticesOf (now (first .entry))) (verticesOf (now (second .entry))) r (verticesOf (now (first .exit))) (verticesOf (now (second .exit))) ⌝ }
+    ensures { λ r. ⌜ Moved room (slice room eps) plane n in_second (verticesOf (old first)) (verticesOf (old second))
+        r (verticesOf (new first)) (verticesOf (new second)) ⌝ }
 {
     if in_second {
         return cut(&second[0..n * 3], first, room, plane, eps);
@@ -70,7 +72,8 @@ fn cut_from(
     cut(&first[0..n * 3], second, room, plane, eps)
 }
 
-// What a plane makes of that outline: it is tested whole first. The test stands here and not beside the cut, so that a plane that cuts nothing costs no call.
+// What a plane makes of that outline: it is tested whole first.
+// The test stands here and not beside the cut, so that a plane that cuts nothing costs no call.
 fn advance(
     first: &mut [f64],
     second: &mut [f64],
@@ -82,7 +85,8 @@ fn advance(
 ) -> Step
     requires { ⌜ (length (now first) ≤ mostWorkNumbers) × (length (now second) ≤ mostWorkNumbers) ⌝ }
     requires { ⌜ (n ≤ room) × (room ≤ length (verticesOf (now first))) × (room ≤ length (verticesOf (now second))) ⌝ }
-    ensures { λ r. ⌜ Moved room (planeChange room eps) plane n in_second (verticesOf (now (first .entry))) (verticesOf (now (second .entry))) r (verticesOf (now (first .exit))) (verticesOf (now (second .exit))) ⌝ }
+    ensures { λ r. ⌜ Moved room (planeChange room eps) plane n in_second (verticesOf (old first)) (verticesOf (old second))
+        r (verticesOf (new first)) (verticesOf (new second)) ⌝ }
 {
     if n < 3 {
         return Step::Gone;
@@ -112,7 +116,8 @@ fn run(
 ) -> Left
     requires { ⌜ (length (now first) ≤ mostWorkNumbers) × (length (now second) ≤ mostWorkNumbers) ⌝ }
     requires { ⌜ (count ≤ room) × (room ≤ length (verticesOf (now first))) × (room ≤ length (verticesOf (now second))) ⌝ }
-    ensures { λ r. ⌜ Ended (runOf (planeChange room eps) (inFours (now (planes .entry))) false (take count (verticesOf (now (first .entry))))) r (verticesOf (now (first .exit))) (verticesOf (now (second .exit))) ⌝ }
+    ensures { λ r. ⌜ Ended (runOf (planeChange room eps) (inFours (old planes)) (outline false (take count (verticesOf (old first)))))
+        r (verticesOf (new first)) (verticesOf (new second)) ⌝ }
 {
     let many = planes.len() / 4;
     let mut n = count;
@@ -142,7 +147,7 @@ fn gather(coords: &[f64], face: &[u32], dst: &mut [f64])
     requires { ⌜ Inside (verticesOf (now coords)) (now face) ⌝ }
     requires { ⌜ length (now face) ≤ length (verticesOf (now dst)) ⌝ }
     requires { ⌜ length (now face) ≤ mostCorners ⌝ }
-    ensures { λ _. ⌜ take (length (now (face .entry))) (verticesOf (now (dst .exit))) ≡ cornersOf (verticesOf (now (coords .entry))) (now (face .entry)) ⌝ }
+    ensures { λ _. ⌜ take (length (old face)) (verticesOf (new dst)) ≡ cornersOf (verticesOf (old coords)) (old face) ⌝ }
 {
     let n = face.len();
     let mut i = 0;
@@ -152,7 +157,8 @@ fn gather(coords: &[f64], face: &[u32], dst: &mut [f64])
     }
 }
 
-// A face clipped by planes that are stored in fours: the answer, with the outline at the front of its list. Both lists keep what else was written.
+// A face clipped by planes that are stored in fours: the answer, with the outline at the front of its list.
+// Both lists keep what else was written.
 // Ruled out: a plane with a NaN part read as leaving all points outside; only the first plane applied.
 pub fn clip_face(
     coords: &[f64],
@@ -165,7 +171,9 @@ pub fn clip_face(
     requires { ⌜ Inside (verticesOf (now coords)) (now face) ⌝ }
     requires { ⌜ (length (now face) ≤ mostCorners) × (length (now planes) ≤ 1024) ⌝ }
     requires { ⌜ (length (now first) ≤ mostWorkNumbers) × (length (now second) ≤ mostWorkNumbers) ⌝ }
-    ensures { λ r. ⌜ Ended (clipFaceOf (shorterOf (length (verticesOf (now (first .entry)))) (length (verticesOf (now (second .entry))))) eps (inFours (now (planes .entry))) (cornersOf (verticesOf (now (coords .entry))) (now (face .entry)))) r (verticesOf (now (first .exit))) (verticesOf (now (second .exit))) ⌝ }
+    ensures { λ r. ⌜ Ended (clipFaceOf (shorterOf (length (verticesOf (old first))) (length (verticesOf (old second)))) eps
+        (inFours (old planes)) (cornersOf (verticesOf (old coords)) (old face)))
+        r (verticesOf (new first)) (verticesOf (new second)) ⌝ }
 {
     let room = work_lists::shorter(first.len() / 3, second.len() / 3);
     if room < face.len() {
@@ -188,7 +196,9 @@ pub fn clip_face_shown(
     requires { ⌜ Inside (verticesOf (now coords)) (now face) ⌝ }
     requires { ⌜ (length (now face) ≤ mostCorners) × (length (now planes) ≤ 1024) ⌝ }
     requires { ⌜ (length (now first) ≤ mostWorkNumbers) × (length (now second) ≤ mostWorkNumbers) ⌝ }
-    ensures { λ r. ⌜ Settled (clipFaceOf (shorterOf (length (verticesOf (now (first .entry)))) (length (verticesOf (now (second .entry))))) eps (inFours (now (planes .entry))) (cornersOf (verticesOf (now (coords .entry))) (now (face .entry)))) r (now (first .entry)) (now (second .entry)) (now (first .exit)) (now (second .exit)) ⌝ }
+    ensures { λ r. ⌜ Settled (clipFaceOf (shorterOf (length (verticesOf (old first))) (length (verticesOf (old second)))) eps
+        (inFours (old planes)) (cornersOf (verticesOf (old coords)) (old face)))
+        r (old first) (old second) (new first) (new second) ⌝ }
 {
     let r = clip_face(coords, face, planes, eps, first, second);
     work_lists::settle_answer(first, second, r, 3);

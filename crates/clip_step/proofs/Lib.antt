@@ -1,5 +1,4 @@
 pub mod Trimming
 pub mod Spacing
 pub mod Computed
-pub mod Outlines
 pub mod Surely

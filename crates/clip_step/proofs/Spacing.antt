@@ -27,12 +27,15 @@ pub record Spacing (eps : Float) (ps : List Point) (last : Point) (kept i : ℕ)
 pub spacing-start : {eps : Float} {ps : List Point} {last : Point} → 0 < length ps → last ≡ getD ps 0 [] → Spacing eps ps last 1 1 ps
 unfolding spacedOf laidFrom
 spacing-start {ps = []} h e = absurd (not-suc-le-zero h)
-spacing-start {ps = p ∷ ps} h e = record { within = h; few = omega arith; same = refl; rest = rw e (record { count = omega arith; list = refl }) }
+spacing-start {ps = p ∷ ps} h e =
+    record { within = h; few = omega arith; same = refl; rest = rw e (record { count = omega arith; list = refl }) }
 
 module _ {eps : Float} {ps : List Point} {last : Point} {kept i : ℕ} {l : List Point} (q : Spacing eps ps last kept i l) where
   -- the point that is read is the one that stood there
   read : getD l i [] ≡ getD ps i []
-  read = sym (ap (λ k. getD l k []) (add-zero i)) ∙ sym (getD-drop i l 0 []) ∙ ap (λ (r : List Point). getD r 0 []) (q .same) ∙ getD-drop i ps 0 [] ∙ ap (λ k. getD ps k []) (add-zero i)
+  read =
+      sym (ap (λ k. getD l k []) (add-zero i)) ∙ sym (getD-drop i l 0 []) ∙ ap (λ (r : List Point). getD r 0 []) (q .same)
+      ∙ getD-drop i ps 0 [] ∙ ap (λ k. getD ps k []) (add-zero i)
 
   beyond : drop (i + 1) l ≡ drop (i + 1) ps
   beyond = sym (drop-drop 1 i l) ∙ ap (drop 1) (q .same) ∙ drop-drop 1 i ps
@@ -43,11 +46,13 @@ module _ {eps : Float} {ps : List Point} {last : Point} {kept i : ℕ} {l : List
       let s : getD ps i [] ≡ p = sym (e ∙ read) in
       record { within = omega arith; few = omega (arith, q .few); same = beyond; rest = rw (drop-more ps i [] h, s, f) at (q .rest) }
 
-  pub spacing-keep : {p : Point} {l′ : List Point} → i < length ps → p ≡ getD l i [] → lt eps (dist3Of p last) ≡ true → l′ ≡ set l kept p → Spacing eps ps p (kept + 1) (i + 1) l′
+  pub spacing-keep : {p : Point} {l′ : List Point} → i < length ps → p ≡ getD l i [] → lt eps (dist3Of p last) ≡ true
+      → l′ ≡ set l kept p → Spacing eps ps p (kept + 1) (i + 1) l′
   unfolding spacedFrom
   spacing-keep {p} {l′} h e f o =
       let s : getD ps i [] ≡ p = sym (e ∙ read) in
-      let next : Rest (spacedOf eps ps) ps kept ((p ∷ []) ++ spacedFrom eps p (drop (i + 1) ps)) l = rw (drop-more ps i [] h, s, f) at (q .rest) in
+      let kept-too = (p ∷ []) ++ spacedFrom eps p (drop (i + 1) ps) in
+      let next : Rest (spacedOf eps ps) ps kept kept-too l = rw (drop-more ps i [] h, s, f) at (q .rest) in
       record {
         within = omega arith;
         few = omega (arith, q .few);
@@ -82,7 +87,8 @@ pub opened-short : (eps : Float) (ps : List Point) → length ps < 2 → length 
 unfolding openedOf
 opened-short eps ps h = rw (le-ltb 1 (length ps) (omega arith))
 
-pub opened-long : (eps : Float) (ps : List Point) {a b : Point} {near : Bool} → 2 ≤ length ps → a ≡ getD ps 0 [] → b ≡ getD ps (length ps - 1) [] → near ≡ le (dist3Of a b) eps
+pub opened-long : (eps : Float) (ps : List Point) {a b : Point} {near : Bool} → 2 ≤ length ps → a ≡ getD ps 0 []
+    → b ≡ getD ps (length ps - 1) [] → near ≡ le (dist3Of a b) eps
     → pick near (length ps - 1) (length ps) ≡ length (openedOf eps ps)
 unfolding openedOf
 opened-long eps ps {near = near} h e f g =
@@ -112,7 +118,8 @@ opened-front eps ps = go (ltb 1 (length ps) && le (dist3Of (getD ps 0 []) (getD 
 
 -- ---- both: the points of a list, spaced out at the front of it, and of these those that are left
 module _ (vs vs′ : List Point) {eps : Float} {n r : ℕ} {part : List Point} where
-  pub doubled-dropped : eps ≡ doubledWithin vs → (n ≡ length (spacedOf eps vs)) × (take n vs′ ≡ spacedOf eps vs) → part ≡ take n vs′ → r ≡ length (openedOf eps part)
+  pub doubled-dropped : eps ≡ doubledWithin vs → (n ≡ length (spacedOf eps vs)) × (take n vs′ ≡ spacedOf eps vs)
+      → part ≡ take n vs′ → r ≡ length (openedOf eps part)
       → (r ≡ length (withoutDoubled vs)) × (take r vs′ ≡ withoutDoubled vs)
   unfolding withoutDoubled
   doubled-dropped e s p o =

@@ -22,7 +22,8 @@ square-clear a b =
     let x = at a 0 -f at b 0 in
     let y = at a 1 -f at b 1 in
     let z = at a 2 -f at b 2 in
-    sum-unsigned binary64 (x *f x +f y *f y) (z *f z) (sum-unsigned binary64 (x *f x) (y *f y) (square-unsigned binary64 x) (square-unsigned binary64 y)) (square-unsigned binary64 z)
+    let first-two = sum-unsigned binary64 (x *f x) (y *f y) (square-unsigned binary64 x) (square-unsigned binary64 y) in
+    sum-unsigned binary64 (x *f x +f y *f y) (z *f z) first-two (square-unsigned binary64 z)
 
 -- ---- a square whose root is above eps, and a NaN, which no sum reaches
 pub sure-of : (eps h : Float) → lt eps (rootOf binary64 (h *f h)) ≡ true → Sure eps (h *f h)
@@ -30,7 +31,8 @@ unfolding dist3Of
 sure-of eps h e =
     record {
       far = λ a b k. lt-le eps (rootOf binary64 (h *f h)) (rootOf binary64 (squareOf a b)) e
-          (root-mono binary64 (h *f h) (squareOf a b) (mul-fits binary64 h h) (square-fits a b) (square-unsigned binary64 h) (square-clear a b) k);
+          (root-mono binary64 (h *f h) (squareOf a b) (mul-fits binary64 h h) (square-fits a b)
+          (square-unsigned binary64 h) (square-clear a b) k);
     }
 
 pub never-sure : (eps : Float) → Sure eps (zero64 /f zero64)

@@ -25,7 +25,8 @@ side-few false true x b = omega arith
 side-few false false x b = omega arith
 
 -- the sides from a through the points from place i on are left, and m points were laid down
-pub record Trimming (keep : Point → Bool) (cross : Point → Point → Point) (ps all before : List Point) (a : Point) (i m : ℕ) (l : List Point) : Type 0 where
+pub record Trimming (keep : Point → Bool) (cross : Point → Point → Point) (ps all before : List Point)
+    (a : Point) (i m : ℕ) (l : List Point) : Type 0 where
   pub within : i ≤ length ps
   pub few : m ≤ 2 * i
   pub rest : Rest all before m (trimFrom keep cross a (drop i ps)) l
@@ -34,8 +35,9 @@ module _ {keep : Point → Bool} {cross : Point → Point → Point} {ps all bef
   pub trimming-start : i ≤ length ps → all ≡ trimFrom keep cross a (drop i ps) → Trimming keep cross ps all before a i 0 before
   trimming-start h e = record { within = h; few = zero-le; rest = rw e rest-start }
 
-  pub trimming-more : {b : Point} {m r : ℕ} {l l′ : List Point} → Trimming keep cross ps all before a i m l → i < length ps → b ≡ getD ps i []
-      → Filled (sideLeaves (keep a) (keep b) (cross a b) b) m l r l′ → Trimming keep cross ps all before b (i + 1) r l′
+  pub trimming-more : {b : Point} {m r : ℕ} {l l′ : List Point} → Trimming keep cross ps all before a i m l
+      → i < length ps → b ≡ getD ps i [] → Filled (sideLeaves (keep a) (keep b) (cross a b) b) m l r l′
+      → Trimming keep cross ps all before b (i + 1) r l′
   unfolding trimFrom
   trimming-more {b} p h e f =
       record {
@@ -49,7 +51,8 @@ module _ {keep : Point → Bool} {cross : Point → Point → Point} {ps all bef
   trimming-end p h = rest-end (rw (drop-of-length-le ps h) at (p .rest))
 
 -- ---- a plane takes the sides from the last point on
-pub trimmed-last : (plane : Plane) (eps : Float) (ps : List Point) {a : Point} → a ≡ getD ps (length ps - 1) [] → trimmedBy plane eps ps ≡ trimFrom (within plane eps) (crossPlane plane) a ps
+pub trimmed-last : (plane : Plane) (eps : Float) (ps : List Point) {a : Point} → a ≡ getD ps (length ps - 1) []
+    → trimmedBy plane eps ps ≡ trimFrom (within plane eps) (crossPlane plane) a ps
 unfolding trimmedBy
 trimmed-last plane eps ps e = rw e
 
@@ -57,7 +60,8 @@ trimmed-last plane eps ps e = rw e
 abbrev pub ringed : List Point → List Point
 ringed ps = ps ++ getD ps 0 [] ∷ []
 
-pub trimmed-ringed : (a b : Point) (ps : List Point) {p : Point} → 0 < length ps → p ≡ getD ps 0 [] → trimmedAt a b ps ≡ trimFrom (onLeft a b) (crossingOf a b) p (drop 1 (ringed ps))
+pub trimmed-ringed : (a b : Point) (ps : List Point) {p : Point} → 0 < length ps → p ≡ getD ps 0 []
+    → trimmedAt a b ps ≡ trimFrom (onLeft a b) (crossingOf a b) p (drop 1 (ringed ps))
 unfolding trimmedAt
 trimmed-ringed a b [] h e = absurd (not-suc-le-zero h)
 trimmed-ringed a b (p ∷ ps) h e = rw e
@@ -65,10 +69,15 @@ trimmed-ringed a b (p ∷ ps) h e = rw e
 pub length-ringed : (ps : List Point) → length (ringed ps) ≡ length ps + 1
 length-ringed ps = length-append ps (getD ps 0 [] ∷ [])
 
-module _ (ps : List Point) {keep : Point → Bool} {cross : Point → Point → Point} {all before : List Point} {a b : Point} {i m r : ℕ} {l l′ : List Point} (t : Trimming keep cross (ringed ps) all before a i m l) where
-  pub ringed-more : i < length ps → b ≡ getD ps i [] → Filled (sideLeaves (keep a) (keep b) (cross a b) b) m l r l′ → Trimming keep cross (ringed ps) all before b (i + 1) r l′
+module _ (ps : List Point) {keep : Point → Bool} {cross : Point → Point → Point} {all before : List Point} {a b : Point} {i m r : ℕ}
+    {l l′ : List Point} (t : Trimming keep cross (ringed ps) all before a i m l) where
+  pub ringed-more : i < length ps → b ≡ getD ps i [] → Filled (sideLeaves (keep a) (keep b) (cross a b) b) m l r l′
+      → Trimming keep cross (ringed ps) all before b (i + 1) r l′
   ringed-more h e f = trimming-more t (omega (arith, length-ringed ps)) (e ∙ sym (List·getD-append ps (getD ps 0 [] ∷ []) [] i h)) f
 
   -- the last side, at the place after the outline's own
-  pub ringed-end : i ≡ length ps → b ≡ getD ps 0 [] → Filled (sideLeaves (keep a) (keep b) (cross a b) b) m l r l′ → Filled all 0 before r l′
-  ringed-end h e f = trimming-end (trimming-more t (omega (arith, length-ringed ps)) (e ∙ sym (getD-at ps (getD ps 0 []) [] [] i (sym h))) f) (omega (arith, length-ringed ps))
+  pub ringed-end : i ≡ length ps → b ≡ getD ps 0 [] → Filled (sideLeaves (keep a) (keep b) (cross a b) b) m l r l′
+      → Filled all 0 before r l′
+  ringed-end h e f =
+      let closes = e ∙ sym (getD-at ps (getD ps 0 []) [] [] i (sym h)) in
+      trimming-end (trimming-more t (omega (arith, length-ringed ps)) closes f) (omega (arith, length-ringed ps))

@@ -1,4 +1,5 @@
--- One plane or one edge against an outline: the points that are kept, and where its sides cross. Every step is one operation of f64.
+-- One plane or one edge against an outline: the points that are kept, and where its sides cross.
+-- Every step is one operation of f64.
 use Prim.Native.Nat.{_-_}
 use mathlib.Core.Bool.{Bool, true, false}
 use mathlib.Core.List.{List, [], _∷_, _++_}

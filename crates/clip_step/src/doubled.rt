@@ -3,6 +3,7 @@ ghost use mathlib.Core.Path.{_≡_};
 ghost use Prim.Native.Nat.{_<_, _≤_};
 ghost use lib.ListN.{length, take};
 ghost use lib.Ieee.{lt, le};
+ghost use Rattle.places.specs.Lent.{old, new};
 ghost use Rattle.places.specs.Limits.{mostWorkNumbers};
 ghost use Rattle.flat.specs.Points.{verticesOf};
 ghost use Rattle.clip_step.specs.Doubled.{squareOf, dist3Of, largestCoordinate, doubledWithin, spacedOf, openedOf, withoutDoubled};
@@ -32,7 +33,7 @@ fn largest_coordinate(p: [f64; 3], m: f64) -> f64
 // Points no farther apart than this are doubled. The constant is 2^-46.
 // Ruled out: one tolerance for coordinates of every size; the largest coordinate taken with its sign.
 fn doubled_within(s: &[f64]) -> f64
-    ensures { λ r. ⌜ r ≡ doubledWithin (verticesOf (now (s .entry))) ⌝ }
+    ensures { λ r. ⌜ r ≡ doubledWithin (verticesOf (old s)) ⌝ }
 {
     let n = s.len() / 3;
     let mut m = 0.0;
@@ -45,7 +46,8 @@ fn doubled_within(s: &[f64]) -> f64
 }
 
 // A sum of squares from which on the root is above eps, so that it need not be taken: the root grows with the number.
-// The factor is far above all roundings, so a usual eps passes the test. Where it does not, the answer is a NaN, which no sum reaches, and every root is taken.
+// The factor is far above all roundings, so a usual eps passes the test.
+// Where it does not, the answer is a NaN, which no sum reaches, and every root is taken.
 fn sure_square(eps: f64) -> f64
     ensures { λ r. ⌜ Sure eps r ⌝ }
 {
@@ -84,8 +86,8 @@ fn is_near(a: [f64; 3], b: [f64; 3], eps: f64, sure: f64) -> bool
 // Each point that is no farther than eps from the one kept before it is dropped; the rest move up.
 fn space_out(s: &mut [f64], eps: f64, sure: f64) -> usize
     requires { ⌜ (0 < length (verticesOf (now s))) × (length (now s) ≤ mostWorkNumbers) × Sure eps sure ⌝ }
-    ensures { λ r. ⌜ r ≡ length (spacedOf eps (verticesOf (now (s .entry)))) ⌝ }
-    ensures { λ r. ⌜ take r (verticesOf (now (s .exit))) ≡ spacedOf eps (verticesOf (now (s .entry))) ⌝ }
+    ensures { λ r. ⌜ r ≡ length (spacedOf eps (verticesOf (old s))) ⌝ }
+    ensures { λ r. ⌜ take r (verticesOf (new s)) ≡ spacedOf eps (verticesOf (old s)) ⌝ }
 {
     let n = s.len() / 3;
     let mut last = flat::space::vertex(s, 0);
@@ -106,7 +108,7 @@ fn space_out(s: &mut [f64], eps: f64, sure: f64) -> usize
 // How many of a list's points are left when the last goes where it doubles the first.
 fn opened(s: &[f64], eps: f64, sure: f64) -> usize
     requires { ⌜ (length (now s) ≤ mostWorkNumbers) × Sure eps sure ⌝ }
-    ensures { λ r. ⌜ r ≡ length (openedOf eps (verticesOf (now (s .entry)))) ⌝ }
+    ensures { λ r. ⌜ r ≡ length (openedOf eps (verticesOf (old s))) ⌝ }
 {
     let n = s.len() / 3;
     if n < 2 {
@@ -124,8 +126,8 @@ fn opened(s: &[f64], eps: f64, sure: f64) -> usize
 // Ruled out: dropping the first of two doubled points; leaving the last where it doubles the first.
 pub fn remove_consecutive_duplicates(s: &mut [f64]) -> usize
     requires { ⌜ length (now s) ≤ mostWorkNumbers ⌝ }
-    ensures { λ r. ⌜ r ≡ length (withoutDoubled (verticesOf (now (s .entry)))) ⌝ }
-    ensures { λ r. ⌜ take r (verticesOf (now (s .exit))) ≡ withoutDoubled (verticesOf (now (s .entry))) ⌝ }
+    ensures { λ r. ⌜ r ≡ length (withoutDoubled (verticesOf (old s))) ⌝ }
+    ensures { λ r. ⌜ take r (verticesOf (new s)) ≡ withoutDoubled (verticesOf (old s)) ⌝ }
 {
     if s.len() < 3 {
         return 0;

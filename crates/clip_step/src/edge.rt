@@ -2,10 +2,10 @@
 ghost use mathlib.Core.Path.{_≡_};
 ghost use mathlib.Core.List.{[], _∷_};
 ghost use Prim.Native.Nat.{_<_, _≤_};
-ghost use lib.ListN.{length, set};
+ghost use lib.ListN.{length};
+ghost use Rattle.places.specs.Lent.{old, new};
 ghost use Rattle.places.specs.Limits.{mostWorkNumbers};
 ghost use Rattle.places.specs.Stored.{inPairs};
-ghost use Rattle.places.specs.Steps.{overPairs};
 ghost use Rattle.flat.specs.Flat.{crossingOf};
 ghost use Rattle.clip_step.specs.ClipStep.{sideLeaves, onLeft, trimmedAt};
 ghost use Rattle.work_lists.specs.Steps.{Filled};
@@ -18,26 +18,14 @@ fn on_left(a: [f64; 2], b: [f64; 2], p: [f64; 2]) -> bool
     flat::cross2(a, b, p) >= 0.0
 }
 
-// A point laid down at place k. A number that stands after the last point stays as it was.
-// Ruled out: the point laid down from number k on; y laid down before x.
-pub fn put(s: &mut [f64], k: usize, p: [f64; 2])
-    requires { ⌜ k < length (inPairs (now s)) ⌝ }
-    ensures points { λ _. ⌜ inPairs (now (s .exit)) ≡ set (inPairs (now (s .entry))) k p ⌝ }
-    ensures over { λ _. ⌜ overPairs (now (s .exit)) ≡ overPairs (now (s .entry)) ⌝ }
-{
-    let i = k * 2;
-    s[i] = p[0];
-    s[i + 1] = p[1];
-}
-
 // A point laid down at place m where there is one. The count goes on past the end of the list.
 // Ruled out: a count that stops where the list ends; a point that has no place laid over the last one.
 fn push(s: &mut [f64], m: usize, p: [f64; 2]) -> usize
     requires { ⌜ m < 8192 ⌝ }
-    ensures { λ r. ⌜ Filled (p ∷ []) m (inPairs (now (s .entry))) r (inPairs (now (s .exit))) ⌝ }
+    ensures { λ r. ⌜ Filled (p ∷ []) m (inPairs (old s)) r (inPairs (new s)) ⌝ }
 {
     if m < s.len() / 2 {
-        put(s, m, p);
+        outline::put_pair(s, m, p);
         return m + 1;
     }
     m + 1
@@ -55,7 +43,7 @@ fn emit(
     q_in: bool,
 ) -> usize
     requires { ⌜ m < 8000 ⌝ }
-    ensures { λ r. ⌜ Filled (sideLeaves p_in q_in (crossingOf a b p q) q) m (inPairs (now (s .entry))) r (inPairs (now (s .exit))) ⌝ }
+    ensures { λ r. ⌜ Filled (sideLeaves p_in q_in (crossingOf a b p q) q) m (inPairs (old s)) r (inPairs (new s)) ⌝ }
 {
     if p_in {
         if q_in {
@@ -75,7 +63,7 @@ fn emit(
 pub fn trim_at_edge(src: &[f64], dst: &mut [f64], a: [f64; 2], b: [f64; 2]) -> usize
     requires { ⌜ 0 < length (inPairs (now src)) ⌝ }
     requires { ⌜ length (now src) ≤ mostWorkNumbers ⌝ }
-    ensures { λ r. ⌜ Filled (trimmedAt a b (inPairs (now (src .entry)))) 0 (inPairs (now (dst .entry))) r (inPairs (now (dst .exit))) ⌝ }
+    ensures { λ r. ⌜ Filled (trimmedAt a b (inPairs (old src))) 0 (inPairs (old dst)) r (inPairs (new dst)) ⌝ }
 {
     let n = src.len() / 2;
     let first = outline::pair(src, 0);

@@ -1,4 +1,5 @@
-// One plane or one edge against an outline: from one list into another; and doubled points dropped in place. The plane's and the edge's forms stand side by side.
+// One plane or one edge against an outline: from one list into another; and doubled points dropped in place.
+// The plane's and the edge's forms stand side by side.
 use planes::Plane;
 
 pub mod doubled;
@@ -9,6 +10,7 @@ ghost use mathlib.Core.List.{[], _∷_};
 ghost use Prim.Native.Nat.{_+_, _*_, _<_, _≤_};
 ghost use lib.ListN.{length};
 ghost use lib.Ieee.{le};
+ghost use Rattle.places.specs.Lent.{old, new};
 ghost use Rattle.places.specs.Limits.{mostWorkNumbers};
 ghost use Rattle.flat.specs.Points.{verticesOf};
 ghost use Rattle.clip_step.specs.ClipStep.{sideLeaves, segmentPlaneOf, trimmedBy};
@@ -31,7 +33,7 @@ pub fn segment_plane_intersection(a: [f64; 3], b: [f64; 3], da: f64, db: f64) ->
 // Ruled out: a count that stops where the list ends; a point that has no place laid over the last one.
 fn push(s: &mut [f64], m: usize, p: [f64; 3]) -> usize
     requires { ⌜ m < 8192 ⌝ }
-    ensures { λ r. ⌜ Filled (p ∷ []) m (verticesOf (now (s .entry))) r (verticesOf (now (s .exit))) ⌝ }
+    ensures { λ r. ⌜ Filled (p ∷ []) m (verticesOf (old s)) r (verticesOf (new s)) ⌝ }
 {
     if m < s.len() / 3 {
         flat::space::put_vertex(s, m, p);
@@ -43,7 +45,8 @@ fn push(s: &mut [f64], m: usize, p: [f64; 3]) -> usize
 // What the side from a to b leaves, by the distances of its ends.
 fn emit(s: &mut [f64], m: usize, eps: f64, a: [f64; 3], da: f64, b: [f64; 3], db: f64) -> usize
     requires { ⌜ m < 8000 ⌝ }
-    ensures { λ r. ⌜ Filled (sideLeaves (le da eps) (le db eps) (segmentPlaneOf a b da db) b) m (verticesOf (now (s .entry))) r (verticesOf (now (s .exit))) ⌝ }
+    ensures { λ r. ⌜ Filled (sideLeaves (le da eps) (le db eps) (segmentPlaneOf a b da db) b) m
+        (verticesOf (old s)) r (verticesOf (new s)) ⌝ }
 {
     if da <= eps {
         if db <= eps {
@@ -58,12 +61,13 @@ fn emit(s: &mut [f64], m: usize, eps: f64, a: [f64; 3], da: f64, b: [f64; 3], db
     m
 }
 
-// An outline cut by a plane, as clip_polygon_by_plane does before doubled points are dropped. The count says how many points it has, even where they do not fit.
+// An outline cut by a plane, as clip_polygon_by_plane does before doubled points are dropped.
+// The count says how many points it has, even where they do not fit.
 // Ruled out: leaving out the side from the last point to the first; keeping a point whose distance is not a number.
 pub fn trim_by_plane(src: &[f64], dst: &mut [f64], plane: Plane, eps: f64) -> usize
     requires { ⌜ 0 < length (verticesOf (now src)) ⌝ }
     requires { ⌜ length (now src) ≤ mostWorkNumbers ⌝ }
-    ensures { λ r. ⌜ Filled (trimmedBy plane eps (verticesOf (now (src .entry)))) 0 (verticesOf (now (dst .entry))) r (verticesOf (now (dst .exit))) ⌝ }
+    ensures { λ r. ⌜ Filled (trimmedBy plane eps (verticesOf (old src))) 0 (verticesOf (old dst)) r (verticesOf (new dst)) ⌝ }
 {
     let n = src.len() / 3;
     let mut a = flat::space::vertex(src, n - 1);

@@ -9,7 +9,7 @@ use Rattle.places.specs.Loops.{pick, anyOf}
 use Rattle.places.specs.Lists.{Each}
 use Rattle.places.specs.Ring.{sides}
 use Rattle.places.proofs.Lists.{each-head, each-tail}
-use Rattle.exact.specs.Sides.{allSides, runs, everySide, even, closedOf}
+use Rattle.exact.specs.Sides.{allSides, runs, everySide, asManyBack, closedOf}
 use Rattle.cell.specs.Faces.{facesFrom, facesOf}
 use Rattle.side_table.specs.Table.{countFaces, Blank}
 use Rattle.side_table.proofs.Counted.{Tells, Both, all-both, table-counts}
@@ -61,4 +61,4 @@ table-closed {In} {at} {n} c es t₀ t tells i w z e =
     let l = allSides (facesFrom 0 c es) in
     let entry = table-counts c es t₀ t tells i w z e in
     level-faces at t (facesFrom 0 c es)
-    ∙ every-same (level at t) (even l) l (all-both 0 c es i) (λ x y hx hy. rw (entry x y hx hy, entry y x hy hx))
+    ∙ every-same (level at t) (asManyBack l) l (all-both 0 c es i) (λ x y hx hy. rw (entry x y hx hy, entry y x hy hx))

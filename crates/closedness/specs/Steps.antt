@@ -1,5 +1,6 @@
 -- What functions below the gatehouse ask of and promise each other; no contract of a public entry speaks of these.
--- Here the test of a side table: which sides it has not as often one way as the other. `at` says which entry is that for the sides from a to b.
+-- Here the test of a side table: which sides it has not as often one way as the other. `at` says which entry is that for the sides from
+-- a to b.
 use mathlib.Core.Bool.{Bool, not}
 use mathlib.Core.List.{List}
 use Prim.Native.Nat.{ℕ}

@@ -4,6 +4,7 @@ ghost use mathlib.Core.Path.{_≡_};
 ghost use Prim.Native.Nat.{ℕ, _*_, _<_, _≤_};
 ghost use lib.Dec.{T};
 ghost use lib.ListN.{length};
+ghost use Rattle.places.specs.Lent.{old};
 ghost use Rattle.places.specs.Limits.{mostVertices, mostCorners};
 ghost use Rattle.places.specs.Lists.{Each};
 ghost use Rattle.exact.specs.Sides.{closedOf};
@@ -46,7 +47,7 @@ fn uneven_face(table: &[u16], number: &[u16], k: usize, face: &[u32]) -> bool
 fn uneven_faces(table: &[u16], number: &[u16], k: usize, corners: &[u32], ends: &[u32]) -> bool
     requires { ⌜ Numbered (now number) k (now corners) (now ends) ⌝ }
     requires { ⌜ k * k ≤ length (now table) ⌝ }
-    ensures { λ r. ⌜ r ≡ unevenFaces (entryOf (now (number .entry)) k) (now (table .entry)) (facesOf (now (corners .entry)) (now (ends .entry))) ⌝ }
+    ensures { λ r. ⌜ r ≡ unevenFaces (entryOf (old number) k) (old table) (facesOf (old corners) (old ends)) ⌝ }
 {
     let n = ends.len();
     let mut start = 0;

@@ -1,4 +1,5 @@
--- What holds of every cut. One induction over the definition, and what it gives: how many triangles there are, of which corners, and what sums over sides they keep.
+-- What holds of every cut. One induction over the definition, and what it gives: how many triangles there are, of which corners,
+-- and what sums over sides they keep.
 use mathlib.Core.Path.{_≡_, refl, _∙_, ap}
 use mathlib.Core.Bool.{Bool, true, false}
 use mathlib.Core.List.{List, [], _∷_, _++_, append-nil}
@@ -26,25 +27,26 @@ use Rattle.flat.specs.Points.{Point}
 use Rattle.flat.specs.Steps.{Inside}
 use Rattle.next_corner.specs.NextCorner.{turnsAt}
 use Rattle.flat.specs.Flat.{pointOf, pointsOf}
-use Rattle.cut.specs.Cut.{Cut, nothing, emitted, stopped, clipped, cutWith, cutRing, nextCornerOf, cutIn, axisFor, directionFor}
-use Rattle.cut.specs.Cut.{cutOf}
+use Rattle.cut.specs.Cut.{Cut, nothing, clipped, cutWith, cutRing, nextCornerOf, cutIn, axisFor, directionFor, cutOf}
 use Rattle.next_corner.proofs.NextCorner.{choose-below, choose-none}
 
 -- ---- the induction
 -- a property of rings and their cuts, kept by each way of cutting
 pub record Kept (choose : List ℕ → Found) (P : List ℕ → Cut → Type 0) : Type 0 where
   pub small : (r : List ℕ) → length r < 3 → P r nothing
-  pub three : (r : List ℕ) → length r ≡ 3 → P r (emitted r)
-  pub stop : (r : List ℕ) → 4 ≤ length r → choose r ≡ Nothing → P r (stopped r)
+  pub three : (r : List ℕ) → length r ≡ 3 → P r (record { triangles = r ∷ []; left = [] })
+  pub stop : (r : List ℕ) → 4 ≤ length r → choose r ≡ Nothing → P r (record { triangles = []; left = r })
   pub clip : (k : ℕ) (r : List ℕ) (c : Cut) → 4 ≤ length r → k < length r → P (without k r) c → P r (clipped k r c)
 
-module _ (choose : List ℕ → Found) (P : List ℕ → Cut → Type 0) (valid : (r : List ℕ) (k : ℕ) → choose r ≡ At k → k < length r) (p : Kept choose P) where
+module _ (choose : List ℕ → Found) (P : List ℕ → Cut → Type 0) (valid : (r : List ℕ) (k : ℕ) → choose r ≡ At k → k < length r)
+    (p : Kept choose P) where
   ring-all : (more : ℕ) (r : List ℕ) → length r ≡ more + 3 → P r (cutRing choose more r)
   unfolding cutRing
   ring-all zero r h = p .three r (omega arith)
   ring-all (suc more) r h = go (choose r) refl (ring-all more)
     where
-      go : (f : Found) → choose r ≡ f → ((s : List ℕ) → length s ≡ more + 3 → P s (cutRing choose more s)) → P r (cutWith f r (cutRing choose more))
+      go : (f : Found) → choose r ≡ f → ((s : List ℕ) → length s ≡ more + 3 → P s (cutRing choose more s))
+          → P r (cutWith f r (cutRing choose more))
       go Nothing e ih = p .stop r (omega arith) e
       go (At k) e ih =
           let l : k < length r = valid r k e in
@@ -57,7 +59,9 @@ module _ (vs : List Point) (face : List ℕ) where
 
   valid : (r : List ℕ) (k : ℕ) → choice r ≡ At k → k < length r
   unfolding nextCornerOf pointsOf
-  valid r k e = omega (arith, choose-below (pointsOf vs (axisFor vs face) r) (directionFor vs face) k e, length-map r (pointOf vs (axisFor vs face)))
+  valid r k e =
+      let many = length-map r (pointOf vs (axisFor vs face)) in
+      omega (arith, choose-below (pointsOf vs (axisFor vs face) r) (directionFor vs face) k e, many)
 
   pub cut-all : (P : List ℕ → Cut → Type 0) → Kept choice P → P face (cutOf vs face)
   unfolding cutOf cutIn directionFor
@@ -81,7 +85,8 @@ cut-ends vs face = cut-all vs face (Ends (choice vs face)) (record {
   clip = λ k r c h l q. more k r c h (length-without k r l) q;
 })
   where
-    more : (k : ℕ) (r : List ℕ) (c : Cut) → 4 ≤ length r → length (without k r) ≡ length r - 1 → Ends (choice vs face) (without k r) c → Ends (choice vs face) r (clipped k r c)
+    more : (k : ℕ) (r : List ℕ) (c : Cut) → 4 ≤ length r → length (without k r) ≡ length r - 1
+        → Ends (choice vs face) (without k r) c → Ends (choice vs face) r (clipped k r c)
     more k r c h e (few l a b) = absurd (omega arith)
     more k r c h e (full a b) = full a (omega arith)
     more k r c h e (short a b d) = short a b (omega arith)
@@ -136,15 +141,20 @@ module _ (w : ℕ → ℕ → ℤ) (anti : Anti w) where
     small = small-zero;
     three = λ r h. rw (append-nil (sides r)) (+ℤ-idr (sum w (sides r)));
     stop = λ r h e. +ℤ-idl (sum w (sides r));
-    clip = λ k r c h l q. rw (sum-append w (sides (earOf k r)) (allSides (c .triangles)), +ℤ-assoc (sum w (sides (earOf k r))), q) (cut-one w anti k r l (omega arith));
+    clip = λ k r c h l q. rw (sum-append w (sides (earOf k r)) (allSides (c .triangles)), +ℤ-assoc (sum w (sides (earOf k r))), q)
+        (cut-one w anti k r l (omega arith));
   })
 
 pub cut-alike : (vs : List Point) (face : List ℕ) → Alike (cutOf vs face .triangles ++ cutOf vs face .left ∷ []) (face ∷ [])
 cut-alike vs face = record {
-  sums = λ w anti. sum-faces w (cutOf vs face .triangles) (cutOf vs face .left ∷ []) ∙ rw (append-nil (sides (cutOf vs face .left)), append-nil (sides face)) (cut-keeps w anti vs face);
+  sums = λ w anti. sum-faces w (cutOf vs face .triangles) (cutOf vs face .left ∷ [])
+      ∙ rw (append-nil (sides (cutOf vs face .left)), append-nil (sides face)) (cut-keeps w anti vs face);
 }
 
 -- ---- where a ring is left no corner of it turns the way of the face
-pub stuck-turns : (vs : List Point) (face ring : List ℕ) → choice vs face ring ≡ Nothing → (k : ℕ) → k < length ring → turnsAt (pointsOf vs (axisFor vs face) ring) (directionFor vs face) k ≡ false
+pub stuck-turns : (vs : List Point) (face ring : List ℕ) → choice vs face ring ≡ Nothing → (k : ℕ) → k < length ring
+    → turnsAt (pointsOf vs (axisFor vs face) ring) (directionFor vs face) k ≡ false
 unfolding nextCornerOf pointsOf
-stuck-turns vs face ring e k h = choose-none (pointsOf vs (axisFor vs face) ring) (directionFor vs face) e k (omega (arith, length-map ring (pointOf vs (axisFor vs face))))
+stuck-turns vs face ring e k h =
+    let many = length-map ring (pointOf vs (axisFor vs face)) in
+    choose-none (pointsOf vs (axisFor vs face) ring) (directionFor vs face) e k (omega (arith, many))

@@ -1,4 +1,5 @@
--- The loop of `cut_ring`: what holds at its head, and that each step keeps it.
+-- The loop of `cut_ring`: at its head the ring that is left, cut on, makes the whole cut, and each step keeps that;
+-- and the cut of a face, which is that of a ring in the face's own plane.
 use mathlib.Core.Path.{_≡_, refl, sym, ap, _∙_}
 use mathlib.Core.Bool.{Bool, true, false}
 use mathlib.Core.List.{List, [], _∷_, _++_}
@@ -18,7 +19,7 @@ use Rattle.places.proofs.Lists.{take-removed, take-three, map-without, sets-fro
 use Rattle.next_corner.specs.NextCorner.{findCorner, directionOf}
 use Rattle.flat.specs.Points.{Point, cornersOf}
 use Rattle.flat.specs.Flat.{newellOf, axisOf, pointOf, pointsOf}
-use Rattle.cut.specs.Cut.{Cut, cutRing, nextCornerOf, cutIn, axisFor, cutOf}
+use Rattle.cut.specs.Cut.{Cut, clipped, cutRing, nextCornerOf, cutIn, axisFor, cutOf}
 use Rattle.cut.specs.Steps.{StepAt, Stepped, Shown}
 use Rattle.cut.specs.declared.Counts.{Counts}
 use Rattle.next_corner.proofs.NextCorner.{choose-below}
@@ -32,7 +33,7 @@ module _ (choose : List ℕ → Found) (m : ℕ) (ring : List ℕ) where
       rw (g, e)
 
   pub cut-some : (k : ℕ) → 3 < m → choose ring ≡ At k
-      → cutRing choose (m - 3) ring ≡ record { triangles = earOf k ring ∷ cutRing choose (m - 1 - 3) (without k ring) .triangles; left = cutRing choose (m - 1 - 3) (without k ring) .left }
+      → cutRing choose (m - 3) ring ≡ clipped k ring (cutRing choose (m - 1 - 3) (without k ring))
   unfolding cutRing
   cut-some k h e =
       let g : m - 3 ≡ suc (m - 1 - 3) = omega arith in
@@ -45,7 +46,8 @@ module _ (choose : List ℕ → Found) (m : ℕ) (ring : List ℕ) where
       rw g
 
 -- what a step's answer tells
-module _ {f : Found} {ns : List ℕ} {ps : List Point} {out : List (List ℕ)} {t : ℕ} {r : Bool} {ns′ : List ℕ} {ps′ : List Point} {out′ : List (List ℕ)} where
+module _ {f : Found} {ns : List ℕ} {ps : List Point} {out : List (List ℕ)} {t : ℕ} {r : Bool}
+    {ns′ : List ℕ} {ps′ : List Point} {out′ : List (List ℕ)} where
   pub step-no : Stepped f ns ps out t r ns′ ps′ out′ → r ≡ false → (f ≡ Nothing) × (out′ ≡ out)
   step-no s e = go f (s .did)
     where
@@ -57,7 +59,8 @@ module _ {f : Found} {ns : List ℕ} {ps : List Point} {out : List (List ℕ)} {
       → (k : ℕ) × (f ≡ At k) × (ns′ ≡ removed k ns) × (ps′ ≡ removed k ps) × (out′ ≡ set out t (earOf k ns))
   step-yes s e = go f (s .did)
     where
-      go : (f : Found) → StepAt f ns ps out t r ns′ ps′ out′ → (k : ℕ) × (f ≡ At k) × (ns′ ≡ removed k ns) × (ps′ ≡ removed k ps) × (out′ ≡ set out t (earOf k ns))
+      go : (f : Found) → StepAt f ns ps out t r ns′ ps′ out′
+          → (k : ℕ) × (f ≡ At k) × (ns′ ≡ removed k ns) × (ps′ ≡ removed k ps) × (out′ ≡ set out t (earOf k ns))
       go Nothing s = (0, cc, cc, cc, cc)
       go (At k) s = (k, refl, s .1, s .2, s .3)
 
@@ -66,7 +69,8 @@ module _ (vs : List Point) (axis : ℕ) (dir : Float) where
   rest m ring = cutRing (nextCornerOf vs axis dir) (m - 3) ring
 
   -- the ring is the first m of ns, its points the first m of ps; t triangles are written; what is left to do from here makes the whole
-  pub record Going (whole : Cut) (n : ℕ) (out₀ : List (List ℕ)) (ns : List ℕ) (ps : List Point) (out : List (List ℕ)) (m t : ℕ) : Type 0 where
+  pub record Going (whole : Cut) (n : ℕ) (out₀ : List (List ℕ)) (ns : List ℕ) (ps : List Point) (out : List (List ℕ))
+      (m t : ℕ) : Type 0 where
     pub low : 3 ≤ m
     pub high : m ≤ n
     pub many : length ns ≡ n
@@ -99,7 +103,8 @@ start vs axis ns ps out dir l r s d =
       written = rw (tn, d, s);
     }
 
-module _ {vs : List Point} {axis : ℕ} {dir : Float} {whole : Cut} {n : ℕ} {out₀ : List (List ℕ)} {ns : List ℕ} {ps : List Point} {out : List (List ℕ)} {m t : ℕ} (g : Going vs axis dir whole n out₀ ns ps out m t) where
+module _ {vs : List Point} {axis : ℕ} {dir : Float} {whole : Cut} {n : ℕ} {out₀ : List (List ℕ)} {ns : List ℕ} {ps : List Point}
+    {out : List (List ℕ)} {m t : ℕ} (g : Going vs axis dir whole n out₀ ns ps out m t) where
   -- the choice by the list of points is the choice by the ring of numbers
   chosen : nextCornerOf vs axis dir (take m ns) ≡ findCorner (take m ps) dir
   unfolding nextCornerOf
@@ -113,23 +118,28 @@ module _ {vs : List Point} {axis : ℕ} {dir : Float} {whole : Cut} {n : ℕ} {o
       length-take-le m ns hn ∙ sym (length-take-le m ps hp)
 
   -- what is in the list at the end
-  shown : (r : Counts) (out′ : List (List ℕ)) → r .triangles ≡ length (whole .triangles) → r .left ≡ length (whole .left) → r .triangles ≤ length out₀ → out′ ≡ sets out₀ 0 (whole .triangles)
+  shown : (r : Counts) (out′ : List (List ℕ)) → r .triangles ≡ length (whole .triangles) → r .left ≡ length (whole .left)
+      → r .triangles ≤ length out₀ → out′ ≡ sets out₀ 0 (whole .triangles)
       → Shown whole r out₀ out′
   shown r out′ a b h e = record { count = a; over = b; written = e ∙ sets-front out₀ (whole .triangles) (omega arith) ∙ rw a }
 
   -- no corner can be cut: stop
-  pub stop : (out′ : List (List ℕ)) → 3 < m → findCorner (take m ps) dir ≡ Nothing → out′ ≡ out → Shown whole (record { triangles = t; left = m }) out₀ out′
+  pub stop : (out′ : List (List ℕ)) → 3 < m → findCorner (take m ps) dir ≡ Nothing → out′ ≡ out
+      → Shown whole (record { triangles = t; left = m }) out₀ out′
   stop out′ h e o =
       let q = cut-none (nextCornerOf vs axis dir) m (take m ns) h (chosen ∙ e) in
       let l : length (take m ns) ≡ m = length-take-le m ns (omega (arith, g .high, g .many)) in
-      shown (record { triangles = t; left = m }) out′ (omega (arith, rw q at (g .count))) (sym l ∙ ap length (rw q at (g .over))) (omega (arith, g .room)) (o ∙ (rw q at (g .written)))
+      shown (record { triangles = t; left = m }) out′ (omega (arith, rw q at (g .count))) (sym l ∙ ap length (rw q at (g .over)))
+      (omega (arith, g .room)) (o ∙ (rw q at (g .written)))
 
   -- a ring of three: it is the last triangle
-  pub end : (out′ : List (List ℕ)) → m ≤ 3 → out′ ≡ set out t (getD ns 0 0 ∷ getD ns 1 0 ∷ getD ns 2 0 ∷ []) → Shown whole (record { triangles = t + 1; left = 0 }) out₀ out′
+  pub end : (out′ : List (List ℕ)) → m ≤ 3 → out′ ≡ set out t (getD ns 0 0 ∷ getD ns 1 0 ∷ getD ns 2 0 ∷ [])
+      → Shown whole (record { triangles = t + 1; left = 0 }) out₀ out′
   end out′ h o =
       let e : m ≡ 3 = omega (arith, g .low) in
       let q = cut-three (nextCornerOf vs axis dir) m (take m ns) h in
-      shown (record { triangles = t + 1; left = 0 }) out′ (omega (arith, rw q at (g .count))) (ap length (rw q at (g .over))) (omega (arith, g .room))
+      shown (record { triangles = t + 1; left = 0 }) out′ (omega (arith, rw q at (g .count))) (ap length (rw q at (g .over)))
+      (omega (arith, g .room))
       (o ∙ rw (← take-three ns (omega (arith, g .high, g .many)), ← e) (rw q at (g .written)))
 
   -- a step
@@ -163,10 +173,12 @@ module _ {vs : List Point} {axis : ℕ} {dir : Float} {whole : Cut} {n : ℕ} {o
 
 -- ---- a face of three corners or more is such a ring; one of fewer gives nothing
 pub ring-shown : {axis : ℕ} {ns face : List ℕ} {normal : Point} {r : Counts} {out out′ : List (List ℕ)} (vs : List Point)
-    → 3 ≤ length face → normal ≡ newellOf (cornersOf vs face) → axis ≡ axisOf normal → ns ≡ face → Shown (cutIn vs axis ns) r out out′ → Shown (cutOf vs face) r out out′
+    → 3 ≤ length face → normal ≡ newellOf (cornersOf vs face) → axis ≡ axisOf normal → ns ≡ face
+    → Shown (cutIn vs axis ns) r out out′ → Shown (cutOf vs face) r out out′
 unfolding cutOf axisFor
 ring-shown {face = face} vs h e a n s = rw (le-ltb (length face) 3 h, ← e, ← a, ← n) s
 
-pub small-shown : (vs : List Point) (face : List ℕ) (out : List (List ℕ)) → length face < 3 → Shown (cutOf vs face) (record { triangles = 0; left = 0 }) out out
+pub small-shown : (vs : List Point) (face : List ℕ) (out : List (List ℕ)) → length face < 3
+    → Shown (cutOf vs face) (record { triangles = 0; left = 0 }) out out
 unfolding cutOf
 small-shown vs face out h = rw (lt-ltb (length face) 3 h) (record { count = refl; over = refl; written = refl })

@@ -1,3 +1,4 @@
 pub mod Going
+pub mod Storing
 pub mod Facts
 pub mod Computed

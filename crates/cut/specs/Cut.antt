@@ -1,4 +1,5 @@
--- The cut of a face: its triangles in order, and the ring that is left. A ring is a list of vertex numbers, and so are its triangles; a corner's point is looked up.
+-- The cut of a face: its triangles in order, and the ring that is left. A ring is a list of vertex numbers, and so are its triangles;
+-- a corner's point is looked up.
 -- What the code's contracts cite, what the worked rows compute and what demand 3 speaks of is `cutOf`.
 use Prim.Native.Nat.{ℕ, zero, suc, _-_}
 use mathlib.Core.List.{List, [], _∷_}
@@ -19,28 +20,23 @@ pub record Cut : Type 0 where
   -- the ring at which the cutting stopped: none where it came to its end
   pub left : List ℕ
 
--- ---- a ring is cut, however the corner is chosen
--- nothing; a ring of 3, emitted untested; no corner to cut: stop
+-- no triangle, and no ring that is left
 abbrev pub nothing : Cut
 nothing = record { triangles = []; left = [] }
 
-abbrev pub emitted : List ℕ → Cut
-emitted ring = record { triangles = ring ∷ []; left = [] }
-
-abbrev pub stopped : List ℕ → Cut
-stopped ring = record { triangles = []; left = ring }
-
--- the triangle (before, corner, after) at place k, and then what the ring without that corner gives
+-- ---- a ring is cut, however the corner is chosen
+-- the triangle (before, corner, after) at place k, and then the rest
 abbrev pub clipped : ℕ → List ℕ → Cut → Cut
 clipped k ring rest = record { triangles = earOf k ring ∷ rest .triangles; left = rest .left }
 
+-- no corner is chosen: stop; corner k is: its triangle, and then what the ring without it gives
 abbrev pub cutWith : Found → List ℕ → (List ℕ → Cut) → Cut
-cutWith Nothing ring go = stopped ring
+cutWith Nothing ring go = record { triangles = []; left = ring }
 cutWith (At k) ring go = clipped k ring (go (without k ring))
 
--- a ring of 3 corners and `more`
+-- a ring of 3 corners and `more`: one of 3 is a triangle, untested
 unfoldable pub cutRing : (List ℕ → Found) → ℕ → List ℕ → Cut
-cutRing choose zero ring = emitted ring
+cutRing choose zero ring = record { triangles = ring ∷ []; left = [] }
 cutRing choose (suc more) ring = cutWith (choose ring) ring (cutRing choose more)
 
 -- ---- a face is cut: the plane and the direction are those of the whole face, and are kept while the ring shrinks

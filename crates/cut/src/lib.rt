@@ -2,6 +2,7 @@
 ghost use mathlib.Core.Path.{_≡_};
 ghost use Prim.Native.Nat.{ℕ, _-_, _<_, _≤_};
 ghost use lib.ListN.{length, set};
+ghost use Rattle.places.specs.Lent.{old, new};
 ghost use Rattle.places.specs.Limits.{mostCorners};
 ghost use Rattle.places.specs.Steps.{removed};
 ghost use Rattle.places.specs.Ring.{earOf};
@@ -21,7 +22,7 @@ pub struct Counts {
 // What stands at place k goes, and what comes after it moves one place left.
 fn remove_number(ns: &mut [u32], k: usize)
     requires { ⌜ k < length (now ns) ⌝ }
-    ensures { λ _. ⌜ now (ns .exit) ≡ removed k (now (ns .entry)) ⌝ }
+    ensures { λ _. ⌜ new ns ≡ removed k (old ns) ⌝ }
 {
     let last = ns.len() - 1;
     let mut j = k;
@@ -33,7 +34,7 @@ fn remove_number(ns: &mut [u32], k: usize)
 
 fn remove_point(ps: &mut [[f64; 2]], k: usize)
     requires { ⌜ k < length (now ps) ⌝ }
-    ensures { λ _. ⌜ now (ps .exit) ≡ removed k (now (ps .entry)) ⌝ }
+    ensures { λ _. ⌜ new ps ≡ removed k (old ps) ⌝ }
 {
     let last = ps.len() - 1;
     let mut j = k;
@@ -46,9 +47,9 @@ fn remove_point(ps: &mut [[f64; 2]], k: usize)
 // The triangle at place k of the ring is written to place t, and the corner goes from both lists.
 fn cut_at(ns: &mut [u32], ps: &mut [[f64; 2]], k: usize, out: &mut [[u32; 3]], t: usize)
     requires { ⌜ (k < length (now ns)) × (k < length (now ps)) × (t < length (now out)) ⌝ }
-    ensures numbers { λ _. ⌜ now (ns .exit) ≡ removed k (now (ns .entry)) ⌝ }
-    ensures points { λ _. ⌜ now (ps .exit) ≡ removed k (now (ps .entry)) ⌝ }
-    ensures written { λ _. ⌜ now (out .exit) ≡ set (now (out .entry)) t (earOf k (now (ns .entry))) ⌝ }
+    ensures numbers { λ _. ⌜ new ns ≡ removed k (old ns) ⌝ }
+    ensures points { λ _. ⌜ new ps ≡ removed k (old ps) ⌝ }
+    ensures written { λ _. ⌜ new out ≡ set (old out) t (earOf k (old ns)) ⌝ }
 {
     let n = ns.len();
     let i = places::prev(k, n);
@@ -62,7 +63,7 @@ fn cut_at(ns: &mut [u32], ps: &mut [[f64; 2]], k: usize, out: &mut [[u32; 3]], t
 // One cut, if there is a corner to cut.
 fn step(ns: &mut [u32], ps: &mut [[f64; 2]], dir: f64, out: &mut [[u32; 3]], t: usize) -> bool
     requires { ⌜ (length (now ns) ≡ length (now ps)) × (t < length (now out)) ⌝ }
-    ensures { λ r. ⌜ Stepped (findCorner (now (ps .entry)) dir) (now (ns .entry)) (now (ps .entry)) (now (out .entry)) t r (now (ns .exit)) (now (ps .exit)) (now (out .exit)) ⌝ }
+    ensures { λ r. ⌜ Stepped (findCorner (old ps) dir) (old ns) (old ps) (old out) t r (new ns) (new ps) (new out) ⌝ }
 {
     let f = next_corner::find_corner(ps, dir);
     match f {
@@ -77,7 +78,7 @@ fn step(ns: &mut [u32], ps: &mut [[f64; 2]], dir: f64, out: &mut [[u32; 3]], t: 
 // The numbers of a face, and the points of a ring's corners, are laid down in lists of their own.
 fn fill_numbers(face: &[u32], ns: &mut [u32])
     requires { ⌜ length (now ns) ≡ length (now face) ⌝ }
-    ensures { λ _. ⌜ now (ns .exit) ≡ now (face .entry) ⌝ }
+    ensures { λ _. ⌜ new ns ≡ old face ⌝ }
 {
     let n = face.len();
     let mut i = 0;
@@ -90,7 +91,7 @@ fn fill_numbers(face: &[u32], ns: &mut [u32])
 fn fill_points(coords: &[f64], ring: &[u32], axis: usize, ps: &mut [[f64; 2]])
     requires { ⌜ Inside (verticesOf (now coords)) (now ring) ⌝ }
     requires { ⌜ length (now ps) ≡ length (now ring) ⌝ }
-    ensures { λ _. ⌜ now (ps .exit) ≡ pointsOf (verticesOf (now (coords .entry))) axis (now (ring .entry)) ⌝ }
+    ensures { λ _. ⌜ new ps ≡ pointsOf (verticesOf (old coords)) axis (old ring) ⌝ }
 {
     let n = ring.len();
     let mut i = 0;
@@ -111,7 +112,7 @@ fn cut_ring(
 ) -> Counts
     requires { ⌜ Inside (verticesOf (now coords)) (now ns) ⌝ }
     requires { ⌜ (length (now ps) ≡ length (now ns)) × (3 ≤ length (now ns)) × (length (now ns) - 2 ≤ length (now out)) ⌝ }
-    ensures { λ r. ⌜ Shown (cutIn (verticesOf (now (coords .entry))) axis (now (ns .entry))) r (now (out .entry)) (now (out .exit)) ⌝ }
+    ensures { λ r. ⌜ Shown (cutIn (verticesOf (old coords)) axis (old ns)) r (old out) (new out) ⌝ }
 {
     fill_points(coords, ns, axis, ps);
     let dir = next_corner::direction(ps);
@@ -144,20 +145,21 @@ fn cut_in(
     out: &mut [[u32; 3]],
 ) -> Counts
     requires { ⌜ Inside (verticesOf (now coords)) (now face) ⌝ }
-    requires { ⌜ (length (now ns) ≡ length (now face)) × (length (now ps) ≡ length (now face)) × (3 ≤ length (now face)) × (length (now face) - 2 ≤ length (now out)) ⌝ }
-    ensures { λ r. ⌜ Shown (cutOf (verticesOf (now (coords .entry))) (now (face .entry))) r (now (out .entry)) (now (out .exit)) ⌝ }
+    requires { ⌜ (length (now ns) ≡ length (now face)) × (length (now ps) ≡ length (now face))
+        × (3 ≤ length (now face)) × (length (now face) - 2 ≤ length (now out)) ⌝ }
+    ensures { λ r. ⌜ Shown (cutOf (verticesOf (old coords)) (old face)) r (old out) (new out) ⌝ }
 {
     let axis = flat::dominant_axis(flat::space::face_normal(coords, face));
     fill_numbers(face, ns);
     cut_ring(coords, axis, ns, ps, out)
 }
 
-// The arrays for the ring are no larger than the work: what is cleared before a cut stays small beside it.
-// A face is cut: its triangles are written to the front of out. The answer says how many, and how many corners are left if the cutting stopped short.
+// A face is cut: its triangles are written to the front of out. The answer says how many, and how many corners are left
+// if the cutting stopped short. The arrays for the ring are no larger than the work: clearing them stays small beside it.
 pub fn cut(coords: &[f64], face: &[u32], out: &mut [[u32; 3]]) -> Counts
     requires { ⌜ Inside (verticesOf (now coords)) (now face) ⌝ }
     requires { ⌜ (length (now face) ≤ mostCorners) × (length (now face) - 2 ≤ length (now out)) ⌝ }
-    ensures { λ r. ⌜ Shown (cutOf (verticesOf (now (coords .entry))) (now (face .entry))) r (now (out .entry)) (now (out .exit)) ⌝ }
+    ensures { λ r. ⌜ Shown (cutOf (verticesOf (old coords)) (old face)) r (old out) (new out) ⌝ }
 {
     let n = face.len();
     if n < 3 {

@@ -21,7 +21,8 @@ use Rattle.demand3.proofs.Reported.{reported}
 
 -- every definition on the way to an exact sum or a volume: 'unfolding computed' opens them all
 unfoldable pub computed : Unit {0}
-unfolding Cut.computed div foldList countOf closedOf det less exactOf plusOf minusOf overOf centroidOf facesOf trianglesOf isShort shortOf tripleOf tripleAbout sumAbout v6Of volumeOf exactPoint placeOf
+unfolding Cut.computed div foldList countOf closedOf det less exactOf plusOf minusOf overOf centroidOf facesOf trianglesOf isShort shortOf
+    tripleOf tripleAbout sumAbout v6Of volumeOf exactPoint placeOf
 computed = tt
 
 abbrev vertices : List Point

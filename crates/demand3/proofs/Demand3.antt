@@ -73,26 +73,34 @@ module _ (vs : List Point) (face : List ℕ) where
       go (full a b) = a
       go (short a b d) = absurd (omega (arith, f (omega arith)))
 
-  end-corners : Ending → Stuck vs face (cutOf vs face .left) → length (cutOf vs face .triangles) + length (cutOf vs face .left) ≡ length face
+  end-corners : Ending → Stuck vs face (cutOf vs face .left)
+      → length (cutOf vs face .triangles) + length (cutOf vs face .left) ≡ length face
   end-corners (few l a b) s = absurd (omega (arith, ap length b, s .four))
   end-corners (full a b) s = absurd (omega (arith, ap length a, s .four))
   end-corners (short a b d) s = d
 
   areas : plus (area (placeOf vs) (cutOf vs face .triangles)) (area (placeOf vs) (cutOf vs face .left ∷ [])) ≡ area (placeOf vs) (face ∷ [])
-  areas = sym (area-append (placeOf vs) (cutOf vs face .triangles) (cutOf vs face .left ∷ [])) ∙ alike-area _ _ (cut-alike vs face) (placeOf vs)
+  areas =
+      sym (area-append (placeOf vs) (cutOf vs face .triangles) (cutOf vs face .left ∷ [])) ∙ alike-area _ _ (cut-alike vs face) (placeOf vs)
 
   full-areas : Full vs face → area (placeOf vs) (cutOf vs face .triangles) ≡ area (placeOf vs) (face ∷ [])
   full-areas f = sym (plus-none (area (placeOf vs) (cutOf vs face .triangles))) ∙ (rw (full-left f, area-none (placeOf vs)) at areas)
 
   pub made-up : MadeUp vs face
-  made-up = record { corners = end-corners (cut-ends vs face); areas = areas; full = full-areas; sides = alike-runs _ _ (cut-alike vs face) }
+  made-up = record {
+    corners = end-corners (cut-ends vs face);
+    areas = areas;
+    full = full-areas;
+    sides = alike-runs _ _ (cut-alike vs face);
+  }
 
 -- ---- of a cell
 mix : (a b c d : ℤ) → (a +ℤ b) +ℤ (c +ℤ d) ≡ (a +ℤ c) +ℤ (b +ℤ d)
 mix a b c d = ring (a ∷ b ∷ c ∷ d ∷ []) ((var 0 ⊕ var 1) ⊕ (var 2 ⊕ var 3)) ((var 0 ⊕ var 2) ⊕ (var 1 ⊕ var 3)) tt
 
 module _ (vs : List Point) where
-  cell-keeps : (w : ℕ → ℕ → ℤ) → Anti w → (fs : List (List ℕ)) → sum w (allSides (trianglesOf vs fs)) +ℤ sum w (allSides (leftsOf vs fs)) ≡ sum w (allSides fs)
+  cell-keeps : (w : ℕ → ℕ → ℤ) → Anti w → (fs : List (List ℕ))
+      → sum w (allSides (trianglesOf vs fs)) +ℤ sum w (allSides (leftsOf vs fs)) ≡ sum w (allSides fs)
   unfolding trianglesOf leftsOf
   cell-keeps w anti [] = refl
   cell-keeps w anti (f ∷ fs) =
@@ -116,7 +124,8 @@ module _ (vs : List Point) where
   no-lefts (f ∷ fs) e = rw (full-left vs f (each-head e)) (no-lefts fs (each-tail e))
 
   full-alike : (fs : List (List ℕ)) → Each [] (Full vs) fs → Alike (trianglesOf vs fs) fs
-  full-alike fs e = record { sums = λ w anti. sym (+ℤ-idr (sum w (allSides (trianglesOf vs fs)))) ∙ (rw (no-lefts fs e) at (cell-keeps w anti fs)) }
+  full-alike fs e =
+      record { sums = λ w anti. sym (+ℤ-idr (sum w (allSides (trianglesOf vs fs)))) ∙ (rw (no-lefts fs e) at (cell-keeps w anti fs)) }
 
   threes : (fs : List (List ℕ)) → Each [] Three (trianglesOf vs fs)
   unfolding trianglesOf

@@ -23,7 +23,8 @@ module _ (vs : List Point) where
   -- ---- a face is not short where it gives its full n − 2, and only there
   not-short : (f : List ℕ) → isShort vs f ≡ false → Full vs f
   unfolding isShort
-  not-short f e h = omega (arith, ltb-false (length (cutOf vs f .triangles) + 2) (length f) (rw (le-leb 3 (length f) h) at e), cut-room vs f)
+  not-short f e h =
+      omega (arith, ltb-false (length (cutOf vs f .triangles) + 2) (length f) (rw (le-leb 3 (length f) h) at e), cut-room vs f)
 
   full-not : (f : List ℕ) → Full vs f → isShort vs f ≡ false
   unfolding isShort

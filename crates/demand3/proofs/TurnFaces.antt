@@ -35,7 +35,8 @@ use Rattle.geometry.specs.Answers.{answered}
 use Rattle.geometry.specs.TurnFaces.{TurnFacesGives}
 use Rattle.geometry.specs.Listed.{Reply, told, written, ofCount, TurnFacesTold}
 use Rattle.demand3.specs.Demand3.{Premises, placeOf}
-use Rattle.demand3.specs.TurnFaces.{OneOutcome, OneOutcomeTold, RefusedLeaves, Success, Succeeds, ClosedAlready, TwiceIsOnce, OnlyFullCuts, WholeGroups, SignAlone, TurnFacesFacts}
+use Rattle.demand3.specs.TurnFaces.{OneOutcome, OneOutcomeTold, RefusedLeaves, Success, Succeeds, ClosedAlready, TwiceIsOnce}
+use Rattle.demand3.specs.TurnFaces.{OnlyFullCuts, WholeGroups, SignAlone, TurnFacesFacts}
 use Rattle.demand3.proofs.Demand3.{sums}
 use Rattle.demand3.proofs.Refused.{refuses}
 

@@ -29,7 +29,8 @@ use Rattle.cell.specs.Faces.{facesOf}
 use Rattle.cell.specs.Refusals.{limit, outOfRange, numberRefused}
 use Rattle.cell.proofs.Faces.{length-faces, face-at}
 use Rattle.cell.proofs.Refusals.{all-in-range, sound, tame}
-use Rattle.demand3.specs.Turns.{turnAt, NoNanTurn, NoNanTurns, rustEarAt, rustFindCorner, rustNextCornerOf, rustCutOf, SameCut, SameCuts, SameCellCuts}
+use Rattle.demand3.specs.Turns.{turnAt, NoNanTurn, NoNanTurns, rustEarAt, rustFindCorner, rustNextCornerOf, rustCutOf, SameCut}
+use Rattle.demand3.specs.Turns.{SameCuts, SameCellCuts}
 
 -- ---- a coordinate that is in range
 limit-value : HasValue limit false (2 ^ 40) 1
@@ -180,7 +181,8 @@ module _ (coords : List Float) (t : numberRefused coords ≡ false) where
   unfolding rustCutOf cutOf cutIn directionFor
   cut-same face inside =
       let choice = nextCornerOf vs (axisFor vs face) (directionFor vs face) in
-      ap (pick (ltb (length face) 3) nothing) (ring-same vs (rustNextCornerOf vs face) choice (choice-same face) (length face - 3) face inside)
+      ap (pick (ltb (length face) 3) nothing) (ring-same vs (rustNextCornerOf vs face) choice (choice-same face)
+      (length face - 3) face inside)
 
 -- ---- the theorems
 pub no-nan-turns : (coords : List Float) → NoNanTurns coords

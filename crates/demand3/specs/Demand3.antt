@@ -101,9 +101,12 @@ pub record Reported (vs : List Point) (fs : List (List ℕ)) : Type 0 where
   pub triangles : closedOf fs ≡ true → shortOf vs fs ≡ 0 → StaysBalanced vs fs
   pub sum : closedOf fs ≡ true → shortOf vs fs ≡ 0 → SameSum vs fs
 
--- ---- nothing is rounded: an f64 of the value a / c, less than 0 where s, is the whole number a · 2 ^ 1074 / c with that sign, here multiplied out
+-- ---- nothing is rounded: an f64 of the value a / c, less than 0 where s, is the whole number a · 2 ^ 1074 / c with that sign,
+-- here multiplied out
 abbrev pub Exact : Type 0
-Exact = (x : Float) (s : Bool) (a c : ℕ) → T (fits binary64 x) → HasValue x s a c → exactOf x *ℤ pos c ≡ cond s (negℤ (pos (a * 2 ^ 1074))) (pos (a * 2 ^ 1074))
+Exact =
+    (x : Float) (s : Bool) (a c : ℕ) → T (fits binary64 x) → HasValue x s a c → exactOf x *ℤ pos c
+    ≡ cond s (negℤ (pos (a * 2 ^ 1074))) (pos (a * 2 ^ 1074))
 
 -- ---- what later requests use
 -- the ring that remains makes up the difference between a face and its triangles
@@ -114,7 +117,8 @@ pub record MadeUp (vs : List Point) (face : List ℕ) : Type 0 where
   pub areas : plus (area (placeOf vs) (pieces vs face)) (area (placeOf vs) (rest vs face ∷ [])) ≡ area (placeOf vs) (face ∷ [])
   pub full : Full vs face → area (placeOf vs) (pieces vs face) ≡ area (placeOf vs) (face ∷ [])
   -- in how many sides run from i to j, those from j to i taken off
-  pub sides : (i j : ℕ) → runs i j (pieces vs face ++ rest vs face ∷ []) + runs j i (face ∷ []) ≡ runs j i (pieces vs face ++ rest vs face ∷ []) + runs i j (face ∷ [])
+  pub sides : (i j : ℕ) → runs i j (pieces vs face ++ rest vs face ∷ []) + runs j i (face ∷ [])
+      ≡ runs j i (pieces vs face ++ rest vs face ∷ []) + runs i j (face ∷ [])
 
 -- the triangles of any closed cell are closed with the rings that remain, fully cut or not
 abbrev pub ClosedWithRings : List Point → List (List ℕ) → Type 0

@@ -117,7 +117,8 @@ WholeGroups fs =
     → (f : ℕ) → ((g : ℕ) → Group fs f g → c g ≡ d g) ⊎ ((g : ℕ) → Group fs f g → c g ≡ not (d g))
 
 -- fs are any faces that are triangles, for instance those of one group. Under a choice and under its opposite, that is the group kept and
--- the group reversed whole, the exact sums of the triple products differ in sign alone: over the triangles that `volume` sums, about any point p.
+-- the group reversed whole, the exact sums of the triple products differ in sign alone:
+-- over the triangles that `volume` sums, about any point p.
 abbrev pub SignAlone : List Point → List (List ℕ) → Type 0
 SignAlone vs fs =
     Each [] (λ f. length f ≡ 3) fs → (choice : ℕ → Bool) (p : V3)

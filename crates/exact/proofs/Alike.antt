@@ -1,12 +1,12 @@
--- Faces that are alike: every weight that changes its sign with the direction has the same sum over their sides. Then they are closed together,
--- have the same doubled area vector, and run each side as often, the runs back taken off.
+-- Faces that are alike: every weight that changes its sign with the direction has the same sum over their sides.
+-- Then they are closed together, have the same doubled area vector, and run each side as often, the runs back taken off.
 use mathlib.Core.Path.{_≡_, refl, sym, _∙_, ap}
 use mathlib.Core.List.{List, [], _∷_, _++_}
 use Prim.Native.Nat.{ℕ, _+_}
 use lib.Dec.{eqb}
 use lib.IntN.{ℤ, pos, negℤ, natAbs, _+ℤ_, _*ℤ_, _-ℤ_, +ℤ-assoc, +ℤ-idl, +ℤ-invr, negℤ-negℤ}
 use Rattle.places.specs.Ring.{sides}
-use Rattle.exact.specs.Sides.{allSides, bit, hits, count, runs, Closed}
+use Rattle.exact.specs.Sides.{allSides, bit, fromTo, count, runs, Closed}
 use Rattle.exact.specs.Space.{V3, sum, plus, area, crossX, crossY, crossZ}
 use Rattle.exact.proofs.Ring.{neg-unique}
 use Rattle.exact.proofs.Poly.{var, _⊕_, _⊗_, ⊖, ring}
@@ -17,24 +17,27 @@ pub record Alike (gs fs : List (List ℕ)) : Type 1 where
 
 pub sum-faces : (w : ℕ → ℕ → ℤ) (fs gs : List (List ℕ)) → sum w (allSides (fs ++ gs)) ≡ sum w (allSides fs) +ℤ sum w (allSides gs)
 sum-faces w [] gs = sym (+ℤ-idl (sum w (allSides gs)))
-sum-faces w (f ∷ fs) gs = rw (sum-append w (sides f) (allSides (fs ++ gs)), sum-append w (sides f) (allSides fs), sum-faces w fs gs, +ℤ-assoc (sum w (sides f)))
+sum-faces w (f ∷ fs) gs =
+    rw (sum-append w (sides f) (allSides (fs ++ gs)), sum-append w (sides f) (allSides fs), sum-faces w fs gs, +ℤ-assoc (sum w (sides f)))
 
 -- ---- the sides i to j less those j to i, as such a weight
 abbrev net : ℕ → ℕ → ℕ → ℕ → ℤ
-net i j u x = pos (bit (hits i j (u, x))) -ℤ pos (bit (hits j i (u, x)))
+net i j u x = pos (bit (fromTo i j (u, x))) -ℤ pos (bit (fromTo j i (u, x)))
 
 flip : (a b : ℤ) → a -ℤ b ≡ negℤ (b -ℤ a)
 flip a b = ring (a ∷ b ∷ []) (var 0 ⊕ ⊖ (var 1)) (⊖ (var 1 ⊕ ⊖ (var 0))) tt
 
 net-anti : (i j : ℕ) → Anti (net i j)
-net-anti i j u x = rw (and-comm (eqb x i) (eqb u j), and-comm (eqb x j) (eqb u i)) (flip (pos (bit (hits i j (u, x)))) (pos (bit (hits j i (u, x)))))
+net-anti i j u x =
+    rw (and-comm (eqb x i) (eqb u j), and-comm (eqb x j) (eqb u i)) (flip (pos (bit (fromTo i j (u, x)))) (pos (bit (fromTo j i (u, x)))))
 
 apart : (a b c d : ℤ) → (a -ℤ b) +ℤ (c -ℤ d) ≡ (a +ℤ c) -ℤ (b +ℤ d)
 apart a b c d = ring (a ∷ b ∷ c ∷ d ∷ []) ((var 0 ⊕ ⊖ (var 1)) ⊕ (var 2 ⊕ ⊖ (var 3))) ((var 0 ⊕ var 2) ⊕ ⊖ (var 1 ⊕ var 3)) tt
 
 net-sum : (i j : ℕ) (l : List (ℕ × ℕ)) → sum (net i j) l ≡ pos (count i j l) -ℤ pos (count j i l)
 net-sum i j [] = refl
-net-sum i j (e ∷ l) = rw (net-sum i j l) (apart (pos (bit (hits i j e))) (pos (bit (hits j i e))) (pos (count i j l)) (pos (count j i l)))
+net-sum i j (e ∷ l) =
+    rw (net-sum i j l) (apart (pos (bit (fromTo i j e))) (pos (bit (fromTo j i e))) (pos (count i j l)) (pos (count j i l)))
 
 level : (a b : ℕ) → pos a -ℤ pos b ≡ pos 0 → a ≡ b
 level a b h = ap natAbs (neg-unique (pos a) (negℤ (pos b)) h ∙ negℤ-negℤ (pos b))
@@ -69,4 +72,8 @@ module _ (gs fs : List (List ℕ)) (alike : Alike gs fs) where
 
 pub area-append : (at : ℕ → V3) (fs gs : List (List ℕ)) → area at (fs ++ gs) ≡ plus (area at fs) (area at gs)
 unfolding area plus
-area-append at fs gs = λ i. record { x = sum-faces (crossX at) fs gs i; y = sum-faces (crossY at) fs gs i; z = sum-faces (crossZ at) fs gs i }
+area-append at fs gs = λ i. record {
+  x = sum-faces (crossX at) fs gs i;
+  y = sum-faces (crossY at) fs gs i;
+  z = sum-faces (crossZ at) fs gs i;
+}

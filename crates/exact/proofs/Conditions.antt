@@ -14,10 +14,10 @@ use borrow.Author.Tests.{eqb-true, eqb-false, eq-eqb, ne-eqb, not-true, not-fals
 use Rattle.places.specs.Loops.{pick, anyOf}
 use Rattle.places.specs.Lists.{Each}
 use Rattle.places.proofs.Lists.{each-nil, each-cons, each-head, each-tail}
-use Rattle.exact.specs.Sides.{allSides, hits, count, runs, Closed}
+use Rattle.exact.specs.Sides.{allSides, fromTo, count, runs, Closed}
 use Rattle.exact.specs.Facing.{reversedBy, occurs, Twice, Single, Fit}
 use Rattle.exact.specs.Facing.{strange, doubled, unfit, choices, choiceOf, closesBy, unclosable}
-use Rattle.exact.proofs.Balance.{hits-eq}
+use Rattle.exact.proofs.Balance.{fromTo-eq}
 use Rattle.exact.proofs.Reversed.{same-faces}
 use Rattle.exact.proofs.Test.{closed-test}
 
@@ -75,13 +75,13 @@ none-side : (test : ℕ × ℕ → Bool) (l : List (ℕ × ℕ)) → (anyOf test
 unfolding anyOf
 none-side test [] = (λ e i j h. absurd (omega arith), λ h. refl)
 none-side test (e ∷ l) = (
-  λ n i j h. let s = none-cons test e l .0 n in go i j h (s .0) (none-side test l .0 (s .1) i j) (hits i j e) refl,
+  λ n i j h. let s = none-cons test e l .0 n in go i j h (s .0) (none-side test l .0 (s .1) i j) (fromTo i j e) refl,
   λ h. none-cons test e l .1 (h (e .0) (e .1) (self-hit e l), none-side test l .1 (λ i j q. h i j (omega arith))),
 )
   where
     go : (i j : ℕ) → 0 < count i j (e ∷ l) → test e ≡ false → (0 < count i j l → test (i, j) ≡ false)
-        → (b : Bool) → hits i j e ≡ b → test (i, j) ≡ false
-    go i j h n ih true q = rw (hits-eq i j e q .0, hits-eq i j e q .1) at n
+        → (b : Bool) → fromTo i j e ≡ b → test (i, j) ≡ false
+    go i j h n ih true q = rw (fromTo-eq i j e q .0, fromTo-eq i j e q .1) at n
     go i j h n ih false q = ih (omega (arith, rw q at h))
 
 -- a side is not strange where its vertices are one, or it occurs twice

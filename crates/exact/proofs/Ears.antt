@@ -86,15 +86,18 @@ module _ (w : ℕ → ℕ → ℤ) (anti : Anti w) where
   first : (c d : ℕ) (r : List ℕ) → sum w (sides (last d r ∷ c ∷ d ∷ [])) +ℤ sum w (sides (d ∷ r)) ≡ sum w (sides (c ∷ d ∷ r))
   first c d r = rw (walk-open w d r d, walk-open w d r c, anti d (last d r), regroup)
 
-  around : (c : ℕ) (s : List ℕ) → 1 ≤ length s → sum w (sides (getD s (length s - 1) 0 ∷ c ∷ getD s 0 0 ∷ [])) +ℤ sum w (sides s) ≡ sum w (sides (c ∷ s))
+  around : (c : ℕ) (s : List ℕ) → 1 ≤ length s
+      → sum w (sides (getD s (length s - 1) 0 ∷ c ∷ getD s 0 0 ∷ [])) +ℤ sum w (sides s) ≡ sum w (sides (c ∷ s))
   around c [] h = absurd (omega arith)
   around c (d ∷ r) h = let e : suc (length r) - 1 ≡ length r = omega arith in rw (e, last-at d r) (first c d r)
 
   -- the triangle at place n and the ring without n have together the sum of the ring
-  pub cut-one : (n : ℕ) (r : List ℕ) → n < length r → 2 ≤ length r → sum w (sides (earOf n r)) +ℤ sum w (sides (without n r)) ≡ sum w (sides r)
+  pub cut-one : (n : ℕ) (r : List ℕ) → n < length r → 2 ≤ length r
+      → sum w (sides (earOf n r)) +ℤ sum w (sides (without n r)) ≡ sum w (sides r)
   unfolding rotated earOf
   cut-one n r h g =
       let e : length r - 2 ≡ length (rotated n r) - 1 = omega (arith, length-rotated n r h) in
       let o : 1 ≤ length (rotated n r) = omega (arith, length-rotated n r h) in
       rw (without-is n r, before-is n r h g ∙ place (rotated n r) e, after-is n r h g, sum-rotated w (take n r) (drop (suc n) r))
-      (around (getD r n 0) (rotated n r) o ∙ sym (sum-rotated w (take n r) (getD r n 0 ∷ drop (suc n) r)) ∙ sym (ap (λ x. sum w (sides x)) (split-at r n 0 h)))
+      (around (getD r n 0) (rotated n r) o ∙ sym (sum-rotated w (take n r) (getD r n 0 ∷ drop (suc n) r))
+      ∙ sym (ap (λ x. sum w (sides x)) (split-at r n 0 h)))

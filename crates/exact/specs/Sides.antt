@@ -13,16 +13,18 @@ allSides [] = []
 allSides (f ∷ fs) = sides f ++ allSides fs
 
 -- whether the side e runs from i to j
-abbrev pub hits : ℕ → ℕ → ℕ × ℕ → Bool
-hits i j e = eqb (e .0) i && eqb (e .1) j
+abbrev pub fromTo : ℕ → ℕ → ℕ × ℕ → Bool
+fromTo i j e = eqb (e .0) i && eqb (e .1) j
 
+-- 1 for yes, 0 for no
 abbrev pub bit : Bool → ℕ
 bit true = 1
 bit false = 0
 
+-- how many sides of a list run from i to j
 abbrev pub count : ℕ → ℕ → List (ℕ × ℕ) → ℕ
 count i j [] = 0
-count i j (e ∷ l) = bit (hits i j e) + count i j l
+count i j (e ∷ l) = bit (fromTo i j e) + count i j l
 
 -- how many face sides run from i to j
 unfoldable pub runs : ℕ → ℕ → List (List ℕ) → ℕ
@@ -32,18 +34,21 @@ runs i j fs = count i j (allSides fs)
 abbrev pub Closed : List (List ℕ) → Type 0
 Closed fs = (i j : ℕ) → i ≢ j → runs i j fs ≡ runs j i fs
 
--- the same as a test: it looks only at the sides that occur
+-- ---- the same as a test, which looks only at the sides that occur
+-- p holds of both ends of every side of a list
 abbrev pub everySide : (ℕ → ℕ → Bool) → List (ℕ × ℕ) → Bool
 everySide p [] = true
 everySide p (e ∷ l) = p (e .0) (e .1) && everySide p l
 
-abbrev pub even : List (ℕ × ℕ) → ℕ → ℕ → Bool
-even l i j = eqb (count i j l) (count j i l)
+-- as many sides of a list run from i to j as from j to i
+abbrev pub asManyBack : List (ℕ × ℕ) → ℕ → ℕ → Bool
+asManyBack l i j = eqb (count i j l) (count j i l)
 
+-- every side that occurs is run back as often
 unfoldable pub closedOf : List (List ℕ) → Bool
 closedOf fs =
     let l = allSides fs in
-    everySide (even l) l
+    everySide (asManyBack l) l
 
 -- the test answers yes exactly where the faces are closed: for all vertex numbers i ≠ j, not only for the sides that occur
 abbrev pub ClosedTest : Type 0

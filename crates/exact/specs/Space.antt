@@ -6,6 +6,7 @@ use lib.ListN.{getD}
 use Rattle.places.specs.Ring.{sides}
 use Rattle.exact.specs.Sides.{allSides}
 
+-- a place, or a step from one place to another
 pub record V3 : Type 0 where
   pub x : ℤ
   pub y : ℤ
@@ -15,9 +16,11 @@ pub record V3 : Type 0 where
 unfoldable pub det : V3 → V3 → V3 → ℤ
 det a b c = a .x *ℤ (b .y *ℤ c .z -ℤ b .z *ℤ c .y) +ℤ a .y *ℤ (b .z *ℤ c .x -ℤ b .x *ℤ c .z) +ℤ a .z *ℤ (b .x *ℤ c .y -ℤ b .y *ℤ c .x)
 
+-- a − p
 unfoldable pub less : V3 → V3 → V3
 less a p = record { x = a .x -ℤ p .x; y = a .y -ℤ p .y; z = a .z -ℤ p .z }
 
+-- a + b
 unfoldable pub plus : V3 → V3 → V3
 plus a b = record { x = a .x +ℤ b .x; y = a .y +ℤ b .y; z = a .z +ℤ b .z }
 

@@ -15,16 +15,17 @@ use Rattle.places.specs.Lists.{Each}
 use Rattle.places.specs.Ring.{sides, nextOf}
 use Rattle.places.proofs.Lists.{each-slice}
 use Rattle.places.proofs.Rings.{length-sides, side-at, next-below}
-use Rattle.exact.specs.Sides.{bit, hits, count, runs, Closed}
+use Rattle.exact.specs.Sides.{bit, fromTo, count, runs, Closed}
 use Rattle.exact.specs.Facing.{faceBy, reversedBy, occurs, has, Share}
-use Rattle.exact.proofs.Balance.{hits-eq}
+use Rattle.exact.proofs.Balance.{fromTo-eq}
 use Rattle.exact.proofs.Reversed.{sides-back, occurs-by, one-of, in-range, user}
 use Rattle.exact.proofs.Conditions.{none-each}
 use Rattle.cell.specs.Faces.{facesOf}
 use Rattle.cell.proofs.Faces.{face-at, length-faces}
 use Rattle.side_table.specs.Numbers.{Known, entryOf}
 use Rattle.shared_sides.specs.Steps.{faceOf, runsUp, firstAt, secondAt, Pair}
-use Rattle.facing.specs.Steps.{codeChoice, Ground, neighbourOf, otherOf, upOf, Met, as-was, now-reached, Spread, clash, clashFace, clashFaces, Marked}
+use Rattle.facing.specs.Steps.{codeChoice, Ground, neighbourOf, otherOf, upOf, Met, as-was, now-reached, Spread, clash, clashFace}
+use Rattle.facing.specs.Steps.{clashFaces, Marked}
 use Rattle.facing.proofs.Neighbours.{up-forth, up-back, Moved, met-side}
 use Rattle.facing.proofs.Spread.{reached-below, spread-room, spread-on}
 
@@ -41,10 +42,10 @@ record PlaceOf (l : List (ℕ × ℕ)) (i j : ℕ) : Type 0 where
 
 place-of : (l : List (ℕ × ℕ)) (i j : ℕ) → 0 < count i j l → PlaceOf l i j
 place-of [] i j h = absurd (omega arith)
-place-of (e ∷ l) i j h = go (place-of l i j) (hits i j e) refl
+place-of (e ∷ l) i j h = go (place-of l i j) (fromTo i j e) refl
   where
-    go : (0 < count i j l → PlaceOf l i j) → (b : Bool) → hits i j e ≡ b → PlaceOf (e ∷ l) i j
-    go ih true s = record { q = 0; within = omega arith; is = hits-eq i j e s }
+    go : (0 < count i j l → PlaceOf l i j) → (b : Bool) → fromTo i j e ≡ b → PlaceOf (e ∷ l) i j
+    go ih true s = record { q = 0; within = omega arith; is = fromTo-eq i j e s }
     go ih false s =
         let r = ih (omega (arith, rw s at h)) in
         let w = r .within in

@@ -19,7 +19,8 @@ ghost use Rattle.side_table.specs.Table.{Blank};
 ghost use Rattle.side_table.specs.Numbers.{Known, Numbered, entryOf};
 ghost use Rattle.shared_sides.specs.Steps.{faceOf, runsUp, firstAt, secondAt, Mates};
 ghost use Rattle.facing.specs.Refused.{reversalRefusal};
-ghost use Rattle.facing.specs.Steps.{codeChoice, Ground, neighbourOf, upOf, againstOf, Met, Spread, Waiting, Seeded, Whole, clash, clashFace, clashFaces, Marked, Chosen};
+ghost use Rattle.facing.specs.Steps.{codeChoice, Ground, neighbourOf, upOf, againstOf, Met, Spread, Waiting, Seeded, Whole, clash};
+ghost use Rattle.facing.specs.Steps.{clashFace, clashFaces, Marked, Chosen};
 
 // How far the faces are reached: all before `low`, and those in the list before `tail`;
 // of these, those before `head` have asked their neighbours.
@@ -91,7 +92,8 @@ fn ask(
 ) -> Reached
     requires { ⌜ Ground (now number) k (now table) (now corners) (now ends) ⌝ }
     requires { ⌜ Spread (facesOf (now corners) (now ends)) (now code) (now list) (at .low) (at .head) (at .tail) × (at .head < at .tail) ⌝ }
-    ensures { λ r. ⌜ Spread (facesOf (now (corners .entry)) (now (ends .entry))) (now (code .exit)) (now (list .exit)) (r .low) (r .head) (r .tail) × (r .head ≡ at .head + 1) ⌝ }
+    ensures { λ r. ⌜ Spread (facesOf (now (corners .entry)) (now (ends .entry))) (now (code .exit)) (now (list .exit)) (r .low) (r .head)
+        (r .tail) × (r .head ≡ at .head + 1) ⌝ }
 {
     let low = at.low;
     let head = at.head;
@@ -118,7 +120,8 @@ fn ask(
 // The first face from `from` on that is not reached.
 fn next_unreached(code: &[u8], from: usize) -> usize
     requires { ⌜ ((f : ℕ) → f < from → 0 < getD (now code) f 0) × (from ≤ length (now code)) ⌝ }
-    ensures { λ r. ⌜ ((f : ℕ) → f < r → 0 < getD (now (code .entry)) f 0) × (r < length (now (code .entry)) → getD (now (code .entry)) r 0 ≡ 0) × (r ≤ length (now (code .entry))) ⌝ }
+    ensures { λ r. ⌜ ((f : ℕ) → f < r → 0 < getD (now (code .entry)) f 0)
+        × (r < length (now (code .entry)) → getD (now (code .entry)) r 0 ≡ 0) × (r ≤ length (now (code .entry))) ⌝ }
 {
     let n = code.len();
     let mut f = from;
@@ -134,7 +137,8 @@ fn next_unreached(code: &[u8], from: usize) -> usize
 // Where all faces in the list have asked, the lowest that is not reached keeps its direction and comes into the list.
 fn seed(code: &mut [u8], list: &mut [u8], at: Reached) -> Reached
     requires { ⌜ Waiting (now code) (now list) (at .low) (at .head) (at .tail) ⌝ }
-    ensures { λ r. ⌜ Seeded (now (code .entry)) (now (list .entry)) (at .low) (at .head) (at .tail) (now (code .exit)) (now (list .exit)) (r .low) (r .head) (r .tail) ⌝ }
+    ensures { λ r. ⌜ Seeded (now (code .entry)) (now (list .entry)) (at .low) (at .head) (at .tail) (now (code .exit)) (now (list .exit))
+        (r .low) (r .head) (r .tail) ⌝ }
 {
     let head = at.head;
     let tail = at.tail;
@@ -163,8 +167,10 @@ fn step(
     at: Reached,
 ) -> Reached
     requires { ⌜ Ground (now number) k (now table) (now corners) (now ends) ⌝ }
-    requires { ⌜ Spread (facesOf (now corners) (now ends)) (now code) (now list) (at .low) (at .head) (at .tail) × (at .head < length (now ends)) ⌝ }
-    ensures { λ r. ⌜ Spread (facesOf (now (corners .entry)) (now (ends .entry))) (now (code .exit)) (now (list .exit)) (r .low) (r .head) (r .tail) × (r .head ≡ at .head + 1) ⌝ }
+    requires { ⌜ Spread (facesOf (now corners) (now ends)) (now code) (now list) (at .low) (at .head) (at .tail)
+        × (at .head < length (now ends)) ⌝ }
+    ensures { λ r. ⌜ Spread (facesOf (now (corners .entry)) (now (ends .entry))) (now (code .exit)) (now (list .exit)) (r .low) (r .head)
+        (r .tail) × (r .head ≡ at .head + 1) ⌝ }
 {
     let ready = seed(code, list, at);
     ask(table, number, k, corners, ends, code, list, ready)
@@ -241,7 +247,8 @@ fn clash_face(
 ) -> bool
     requires { ⌜ Ground (now number) k (now table) (now corners) (now ends) ⌝ }
     requires { ⌜ (length (now code) ≡ length (now ends)) × (f < length (now ends)) ⌝ }
-    ensures { λ r. ⌜ r ≡ clashFace (entryOf (now (number .entry)) k) (now (table .entry)) (now (code .entry)) (getD (facesOf (now (corners .entry)) (now (ends .entry))) f []) ⌝ }
+    ensures { λ r. ⌜ r ≡ clashFace (entryOf (now (number .entry)) k) (now (table .entry)) (now (code .entry))
+        (getD (facesOf (now (corners .entry)) (now (ends .entry))) f []) ⌝ }
 {
     let face = cell::face_by_number(corners, ends, f);
     let n = face.len();
@@ -268,7 +275,8 @@ fn clash_faces(
 ) -> bool
     requires { ⌜ Ground (now number) k (now table) (now corners) (now ends) ⌝ }
     requires { ⌜ length (now code) ≡ length (now ends) ⌝ }
-    ensures { λ r. ⌜ r ≡ clashFaces (entryOf (now (number .entry)) k) (now (table .entry)) (now (code .entry)) (facesOf (now (corners .entry)) (now (ends .entry))) ⌝ }
+    ensures { λ r. ⌜ r ≡ clashFaces (entryOf (now (number .entry)) k) (now (table .entry)) (now (code .entry))
+        (facesOf (now (corners .entry)) (now (ends .entry))) ⌝ }
 {
     let n = ends.len();
     let mut f = 0;
@@ -298,7 +306,8 @@ fn reverse_by_code(face: &mut [u32], w: u8) -> usize
 pub fn reverse_faces(corners: &mut [u32], ends: &[u32], code: &[u8]) -> usize
     requires { ⌜ T (rises 0 (now ends) (length (now corners))) × (length (now corners) ≤ mostCorners) ⌝ }
     requires { ⌜ (length (now code) ≡ length (now ends)) × (length (now ends) ≤ mostFaces) ⌝ }
-    ensures list { λ _. ⌜ now (corners .exit) ≡ joined (reversedBy (codeChoice (now (code .entry))) (facesOf (now (corners .entry)) (now (ends .entry)))) ⌝ }
+    ensures list { λ _. ⌜ now (corners .exit) ≡ joined (reversedBy (codeChoice (now (code .entry)))
+        (facesOf (now (corners .entry)) (now (ends .entry)))) ⌝ }
     ensures count { λ r. ⌜ r ≡ howMany (codeChoice (now (code .entry))) (length (now (ends .entry))) ⌝ }
 {
     let n = ends.len();

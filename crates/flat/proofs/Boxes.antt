@@ -1,4 +1,4 @@
--- Boxes of which no coordinate is a NaN: the one from which bounds start, and each that is such a one widened.
+-- Boxes of which no coordinate is a NaN, which `widen3` asks for: the one from which bounds start, and each that is such a one widened.
 use mathlib.Core.Path.{_≡_, refl, ap, _∙_}
 use mathlib.Core.Bool.{false}
 use Prim.Native.Nat.{ℕ, zero, suc, _+_, _<_}

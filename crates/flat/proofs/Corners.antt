@@ -1,4 +1,4 @@
--- The corners of a face, one for each of its numbers; and a face that has none.
+-- The corners of a face, one for each of its numbers, so that a place of the face tells its corner; and a face that has none.
 use mathlib.Core.Path.{_≡_, refl}
 use mathlib.Core.List.{List, [], _∷_}
 use Prim.Native.Nat.{ℕ, _<_}

@@ -1,4 +1,5 @@
--- Points. A point is the list of its coordinates: two in the plane, three in space. The definitions that Rust has for both take that number, D, as their first argument.
+-- Points. A point is the list of its coordinates: two in the plane, three in space. The definitions
+-- that Rust has for both take that number, D, as their first argument.
 use Prim.Native.Nat.{ℕ, zero, suc, _+_}
 use mathlib.Core.List.{List, [], _∷_, map}
 use mathlib.Core.Bool.{true, false}

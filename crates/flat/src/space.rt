@@ -5,6 +5,7 @@ ghost use lib.ListN.{length, getD, set};
 ghost use mathlib.Core.List.{[]};
 ghost use lib.IntN.{pos};
 ghost use lib.Ieee.{binary64, ofInt};
+ghost use Rattle.places.specs.Lent.{old, new};
 ghost use Rattle.places.specs.Limits.{mostCoordinates};
 ghost use Rattle.places.specs.Steps.{overThrees};
 ghost use Rattle.flat.specs.Points.{verticesOf, vertexOf, cornersOf, centroidOf, boundsOf};
@@ -14,7 +15,7 @@ ghost use Rattle.flat.specs.Flat.{newellOf, pointOf};
 // The vertex with a number.
 pub fn vertex(coords: &[f64], v: usize) -> [f64; 3]
     requires { ⌜ v < length (verticesOf (now coords)) ⌝ }
-    ensures { λ r. ⌜ r ≡ vertexOf (verticesOf (now (coords .entry))) v ⌝ }
+    ensures { λ r. ⌜ r ≡ vertexOf (verticesOf (old coords)) v ⌝ }
 {
     let i = v * 3;
     [
@@ -28,8 +29,8 @@ pub fn vertex(coords: &[f64], v: usize) -> [f64; 3]
 // Ruled out: the vertex laid down from the number's own place on; a number of the next vertex changed.
 pub fn put_vertex(coords: &mut [f64], v: usize, p: [f64; 3])
     requires { ⌜ v < length (verticesOf (now coords)) ⌝ }
-    ensures vertices { λ _. ⌜ verticesOf (now (coords .exit)) ≡ set (verticesOf (now (coords .entry))) v p ⌝ }
-    ensures over { λ _. ⌜ overThrees (now (coords .exit)) ≡ overThrees (now (coords .entry)) ⌝ }
+    ensures vertices { λ _. ⌜ verticesOf (new coords) ≡ set (verticesOf (old coords)) v p ⌝ }
+    ensures over { λ _. ⌜ overThrees (new coords) ≡ overThrees (old coords) ⌝ }
 {
     let i = v * 3;
     coords[i] = p[0];
@@ -41,7 +42,7 @@ pub fn put_vertex(coords: &mut [f64], v: usize, p: [f64; 3])
 pub fn vertex_at(coords: &[f64], face: &[u32], i: usize) -> [f64; 3]
     requires { ⌜ Inside (verticesOf (now coords)) (now face) ⌝ }
     requires { ⌜ i < length (now face) ⌝ }
-    ensures { λ r. ⌜ r ≡ getD (cornersOf (verticesOf (now (coords .entry))) (now (face .entry))) i [] ⌝ }
+    ensures { λ r. ⌜ r ≡ getD (cornersOf (verticesOf (old coords)) (old face)) i [] ⌝ }
 {
     let v = places::corner(face, i);
     vertex(coords, v)
@@ -51,7 +52,7 @@ pub fn vertex_at(coords: &[f64], face: &[u32], i: usize) -> [f64; 3]
 pub fn point_at(coords: &[f64], ring: &[u32], axis: usize, i: usize) -> [f64; 2]
     requires { ⌜ Inside (verticesOf (now coords)) (now ring) ⌝ }
     requires { ⌜ i < length (now ring) ⌝ }
-    ensures { λ r. ⌜ r ≡ pointOf (verticesOf (now (coords .entry))) axis (getD (now (ring .entry)) i 0) ⌝ }
+    ensures { λ r. ⌜ r ≡ pointOf (verticesOf (old coords)) axis (getD (old ring) i 0) ⌝ }
 {
     crate::project2(vertex_at(coords, ring, i), axis)
 }
@@ -59,7 +60,7 @@ pub fn point_at(coords: &[f64], ring: &[u32], axis: usize, i: usize) -> [f64; 2]
 // The Newell sums of a face. A side's end is the next one's start, so each corner is read once.
 pub fn face_normal(coords: &[f64], face: &[u32]) -> [f64; 3]
     requires { ⌜ Inside (verticesOf (now coords)) (now face) ⌝ }
-    ensures { λ r. ⌜ r ≡ newellOf (cornersOf (verticesOf (now (coords .entry))) (now (face .entry))) ⌝ }
+    ensures { λ r. ⌜ r ≡ newellOf (cornersOf (verticesOf (old coords)) (old face)) ⌝ }
 {
     let n = face.len();
     if n == 0 {
@@ -81,7 +82,7 @@ pub fn face_normal(coords: &[f64], face: &[u32]) -> [f64; 3]
 
 // The Newell sums of a list of points.
 pub fn newell_normal(coords: &[f64]) -> [f64; 3]
-    ensures { λ r. ⌜ r ≡ newellOf (verticesOf (now (coords .entry))) ⌝ }
+    ensures { λ r. ⌜ r ≡ newellOf (verticesOf (old coords)) ⌝ }
 {
     let mut s = [0.0, 0.0, 0.0];
     let n = coords.len() / 3;
@@ -104,9 +105,10 @@ pub fn count(n: u16) -> f64
     n as f64
 }
 
+// The vertex centroid: the points added in order, and each coordinate divided by their number.
 pub fn vertex_centroid(coords: &[f64]) -> [f64; 3]
     requires { ⌜ length (now coords) ≤ mostCoordinates ⌝ }
-    ensures { λ r. ⌜ r ≡ centroidOf 3 (verticesOf (now (coords .entry))) ⌝ }
+    ensures { λ r. ⌜ r ≡ centroidOf 3 (verticesOf (old coords)) ⌝ }
 {
     let n = coords.len() / 3;
     let mut s = [0.0, 0.0, 0.0];
@@ -119,8 +121,9 @@ pub fn vertex_centroid(coords: &[f64]) -> [f64; 3]
     crate::over3(s, count(n as u16))
 }
 
+// The smallest box that has the points: its corner of least and that of largest coordinates.
 pub fn bounds(coords: &[f64]) -> [[f64; 3]; 2]
-    ensures { λ r. ⌜ r ≡ boundsOf 3 (verticesOf (now (coords .entry))) ⌝ }
+    ensures { λ r. ⌜ r ≡ boundsOf 3 (verticesOf (old coords)) ⌝ }
 {
     let n = coords.len() / 3;
     let top = 1.0 / 0.0;

@@ -1,5 +1,6 @@
 -- One more digit of a root in base B, by one division (Zimmermann's square root): w is the whole root of w * w + t, and B is at most w.
--- With q and u the quotient and the remainder of t * B by 2 * w, the root of (w * w + t) * B * B is w * B + q or one less. Nothing here is about floats.
+-- With q and u the quotient and the remainder of t * B by 2 * w, the root of (w * w + t) * B * B is w * B + q or one less.
+-- Nothing here is about floats.
 use mathlib.Core.Path.{_≡_, refl, sym, ap, _∙_, subst}
 use Prim.Native.Nat.{ℕ, _+_, _-_, _*_, _/_, _%_, _≤_, _<_}
 use native.Mathlib.Nat.{mul-le-mul, mul-le-mul-right, div-add-mod, div-le-of-le-mul, mod-lt}
@@ -86,11 +87,14 @@ module _ (w t B : ℕ) (P : 0 < B) (W : B ≤ w) (le : t ≤ 2 * w) where
   sizes = (quotient-le, mul-le-mul quotient-le quotient-le, remainder-lt)
 
   -- the guess is right
-  pub right : quotient w t B * quotient w t B ≤ remainder w t B * B → Extended B w t (w * B + quotient w t B) (remainder w t B * B - quotient w t B * quotient w t B)
+  pub right : quotient w t B * quotient w t B ≤ remainder w t B * B
+      → Extended B w t (w * B + quotient w t B) (remainder w t B * B - quotient w t B * quotient w t B)
   right = right-at w t B (quotient w t B) (remainder w t B) P W le divides remainder-lt quotient-le
 
   -- it is one too high
-  pub high : remainder w t B * B < quotient w t B * quotient w t B → Extended B w t (w * B + quotient w t B - 1) (remainder w t B * B + (2 * (w * B + quotient w t B) - 1) - quotient w t B * quotient w t B)
+  pub high : remainder w t B * B < quotient w t B * quotient w t B
+      → Extended B w t (w * B + quotient w t B - 1) (remainder w t B * B + (2 * (w * B + quotient w t B) - 1) - quotient w t B * quotient w
+      t B)
   high = high-at w t B (quotient w t B) (remainder w t B) P W le divides remainder-lt quotient-le
 
   -- and then there is enough to take the square from

@@ -1,8 +1,10 @@
--- The values of a format, in units of its smallest positive value, 2 ^ -low: which whole numbers they are, and that none lies between two neighbours.
+-- The values of a format, in units of its smallest positive value, 2 ^ -low: which whole numbers they are,
+-- and that none lies between two neighbours.
 use mathlib.Core.Path.{_≡_, refl, sym, ap, _∙_, subst}
 use mathlib.Core.Logic.{_⊎_, inl, inr}
 use Prim.Native.Nat.{ℕ, zero, suc, _+_, _-_, _*_, _%_, _^_, _≤_, _<_}
-use native.Mathlib.Nat.{le-trans, le-of-eq, le-of-lt, lt-of-not-le, not-le-of-lt, eq-of-mul-eq-mul-right, mul-one, mul-assoc, mul-le-mul-right, zero-mul}
+use native.Mathlib.Nat.{le-trans, le-of-eq, le-of-lt, lt-of-not-le, not-le-of-lt, eq-of-mul-eq-mul-right, mul-one, mul-assoc}
+use native.Mathlib.Nat.{mul-le-mul-right, zero-mul}
 use native.Mathlib.Decide.{decLe}
 use native.Mathlib.Omega.{arith}
 use mathlib.Core.Bool.{Bool, true, false, _&&_, cond}
@@ -26,7 +28,8 @@ unfolding units
 units-value f q k r = go (ltb (q * 2 ^ k) (2 ^ (low f + suc (emax f))))
   where
     go : (b : Bool) → HasValue (cond b (odd (suc (prec f)) false q k (low f)) (inf false)) false r (2 ^ low f) → r ≡ q * 2 ^ k
-    go true v = one-value (odd (suc (prec f)) false q k (low f)) false r (q * 2 ^ k) (2 ^ low f) v (odd-sign (suc (prec f)) false q k (low f))
+    go true v =
+        one-value (odd (suc (prec f)) false q k (low f)) false r (q * 2 ^ k) (2 ^ low f) v (odd-sign (suc (prec f)) false q k (low f))
     go false v = absurd v
 
 -- ---- what `fits` says of a number other than zero
@@ -48,7 +51,8 @@ pow-le-back : (a l : ℕ) → 2 ^ a ≤ 2 ^ l → a ≤ l
 pow-le-back a l h = let k : a < suc l = lt-of-not-le (λ (g : suc l ≤ a). not-le-of-lt (pow-lt g) h) in omega arith
 
 in-units : (f : Format) (m : ℕ) (e : ℤ) → down e ≤ 2 ^ low f → (j : ℕ) × (m * up e * 2 ^ low f ≡ m * 2 ^ j * down e)
-in-units f m (pos a) h = (a + low f, mul-assoc m (2 ^ a) (2 ^ low f) ∙ ap (λ (x : ℕ). m * x) (sym (pow-add 2 a (low f))) ∙ sym (mul-one (m * 2 ^ (a + low f))))
+in-units f m (pos a) h =
+    (a + low f, mul-assoc m (2 ^ a) (2 ^ low f) ∙ ap (λ (x : ℕ). m * x) (sym (pow-add 2 a (low f))) ∙ sym (mul-one (m * 2 ^ (a + low f))))
 in-units f m (negsuc a) h =
     let l = low f in (
       l - suc a,
@@ -67,7 +71,8 @@ on-grid f (fin s zero e) y h v = (
   0,
   0,
   pow-pos (prec f),
-  eq-of-mul-eq-mul-right (down e) (down-pos e) y (0 * 1) (sym (v .1) ∙ ap (λ (z : ℕ). z * 2 ^ low f) (zero-mul (up e)) ∙ zero-mul (2 ^ low f) ∙ sym (zero-mul (down e))),
+  eq-of-mul-eq-mul-right (down e) (down-pos e) y (0 * 1) (sym (v .1) ∙ ap (λ (z : ℕ). z * 2 ^ low f) (zero-mul (up e))
+      ∙ zero-mul (2 ^ low f) ∙ sym (zero-mul (down e))),
 )
 on-grid f (fin s (suc m) e) y h v =
     let p = in-format f s m e h in
@@ -104,7 +109,8 @@ gap f k q y Q (m, j, M, e) = either (decLe k j)
     either : Dec (k ≤ j) → (y ≤ q * 2 ^ k) ⊎ ((q + 1) * 2 ^ k ≤ y)
     either (yes h) =
         let same : m * 2 ^ (j - k) * 2 ^ k ≡ y =
-        mul-assoc m (2 ^ (j - k)) (2 ^ k) ∙ ap (λ (x : ℕ). m * x) (sym (pow-add 2 (j - k) k) ∙ ap (λ (x : ℕ). 2 ^ x) (back j k h)) ∙ sym e in
+        mul-assoc m (2 ^ (j - k)) (2 ^ k) ∙ ap (λ (x : ℕ). m * x) (sym (pow-add 2 (j - k) k) ∙ ap (λ (x : ℕ). 2 ^ x) (back j k h))
+        ∙ sym e in
         subst (λ (x : ℕ). (x ≤ q * 2 ^ k) ⊎ ((q + 1) * 2 ^ k ≤ x)) same (whole-or-fewer (m * 2 ^ (j - k)) q (2 ^ k))
     either (no n) =
         let l : j < k = lt-of-not-le n in

@@ -1,10 +1,11 @@
 -- The root grows with the number (`root-mono`), so the larger of two roots is the root of the larger number (`largest-root`).
--- No value is nearer to either exact root than its rounded root. So were the root of the larger number the smaller one, the mid-point of the two would be
--- at most the exact root of the smaller number and at least that of the larger.
+-- No value is nearer to either exact root than its rounded root. So were the root of the larger number the smaller one,
+-- the mid-point of the two would be at most the exact root of the smaller number and at least that of the larger.
 use mathlib.Core.Path.{_≡_, refl, sym, ap, _∙_, subst}
 use mathlib.Core.Logic.{inl, inr}
 use Prim.Native.Nat.{ℕ, zero, suc, _+_, _-_, _*_, _/_, _^_, _≤_, _<_, compare}
-use native.Mathlib.Nat.{le-trans, le-refl, le-of-eq, le-of-lt, le-of-mul-le-mul-right, lt-of-not-le, eq-or-lt-of-le, mul-pos, mul-le-mul-right, eq-of-mul-eq-mul-right}
+use native.Mathlib.Nat.{le-trans, le-refl, le-of-eq, le-of-lt, le-of-mul-le-mul-right, lt-of-not-le, eq-or-lt-of-le, mul-pos}
+use native.Mathlib.Nat.{mul-le-mul-right, eq-of-mul-eq-mul-right}
 use native.Mathlib.Decide.{decLe}
 use native.Mathlib.Omega.{arith}
 use mathlib.Core.Bool.{Bool, true, false, not, _&&_, _||_, cond, true≢false}
@@ -12,7 +13,8 @@ use lib.Dec.{T, ltb, eqb, ltb→lt, lt→ltb, eqb→eq}
 use lib.Pow.{pow-pos}
 use lib.IntN.{ℤ}
 use borrow.Author.Tests.{lt-ltb, le-ltb}
-use lib.Ieee.{Float, nan, inf, fin, Format, prec, emax, low, up, down, size, hid, nearest, odd, units, fits, isNan, lt, le, toBits, ofBits, round, sum, add, mul}
+use lib.Ieee.{Float, nan, inf, fin, Format, prec, emax, low, up, down, size, hid, nearest, odd, units, fits, isNan, lt, le, toBits, ofBits}
+use lib.Ieee.{round, sum, add, mul}
 use lib.Ieee.Fits.{kept-lt, nearest-le, cond-fits, inf-fits, nan-fits, down-pos}
 use lib.Ieee.Nearest.{div-same}
 use lib.Ieee.Bits.{ofBits-toBits, is-true}
@@ -38,7 +40,9 @@ le-is (fin false m e) (fin false n d) a b c C v w t =
     let x = m * up e in
     let y = n * up d in
     le-of-mul-le-mul-right
-    (transfer a b c c x y (down e) (down d) (down-pos e) (down-pos d) (sym (v .1)) (sym (w .1)) (go (ltb (x * down d) (y * down e)) (eqb (x * down d) (y * down e)) (ltb→lt (x * down d) (y * down e)) (eqb→eq (x * down d) (y * down e)) t))
+    (transfer a b c c x y (down e) (down d) (down-pos e) (down-pos d) (sym (v .1)) (sym (w .1))
+    (go (ltb (x * down d) (y * down e)) (eqb (x * down d) (y * down e)) (ltb→lt (x * down d) (y * down e))
+    (eqb→eq (x * down d) (y * down e)) t))
     C
   where
     go : {p q : ℕ} (less same : Bool) → (T less → p < q) → (T same → p ≡ q) → T (less || (same && true)) → p ≤ q
@@ -63,13 +67,17 @@ largest-is (fin false m e) (fin false n d) a b c C v w = ap (λ (t : Bool). cond
     y = n * up d
 
     go : Dec (b ≤ a) → ltb (x * down d) (y * down e) ≡ ltb a b
-    go (yes h) = le-ltb (x * down d) (y * down e) (transfer y x (down d) (down e) b a c c C C (w .1) (v .1) (mul-le-mul-right c h)) ∙ sym (le-ltb a b h)
+    go (yes h) =
+        le-ltb (x * down d) (y * down e) (transfer y x (down d) (down e) b a c c C C (w .1) (v .1) (mul-le-mul-right c h))
+        ∙ sym (le-ltb a b h)
     go (no g) =
         lt-ltb (x * down d) (y * down e)
-        (lt-of-not-le (λ h. g (le-of-mul-le-mul-right (transfer b a c c y x (down d) (down e) (down-pos d) (down-pos e) (sym (w .1)) (sym (v .1)) h) C)))
+        (lt-of-not-le (λ h. g (le-of-mul-le-mul-right (transfer b a c c y x (down d) (down e) (down-pos d) (down-pos e) (sym (w .1))
+        (sym (v .1)) h) C)))
         ∙ sym (lt-ltb a b (lt-of-not-le g))
 
-same-number : (f : Format) (x y : Float) (a c : ℕ) → 0 < c → T (fits f x) → T (fits f y) → HasValue x false a c → HasValue y false a c → x ≡ y
+same-number : (f : Format) (x y : Float) (a c : ℕ) → 0 < c → T (fits f x) → T (fits f y) → HasValue x false a c → HasValue y false a c
+    → x ≡ y
 unfolding toBits
 same-number f x y a c C hx hy v w = sym (ofBits-toBits f x hx) ∙ ap (ofBits f) (go x y v w) ∙ ofBits-toBits f y hy
   where
@@ -87,7 +95,8 @@ same-number f x y a c C hx hy v w = sym (ofBits-toBits f x hx) ∙ ap (ofBits f)
     go (fin s m e) (fin t n d) v w =
         ap (λ (b : Bool). toBits f (fin b m e)) (v .0)
         ∙ ap (λ (z : ℕ). 0 + (size z - prec f) * hid f + z / 2 ^ (size z - prec f))
-        (div-same (m * up e * 2 ^ low f) (down e) (n * up d * 2 ^ low f) (down d) (down-pos e) (down-pos d) (cross (m * up e) (n * up d) (down e) (down d) (2 ^ low f) (v .1) (w .1)))
+        (div-same (m * up e * 2 ^ low f) (down e) (n * up d * 2 ^ low f) (down d) (down-pos e) (down-pos d)
+        (cross (m * up e) (n * up d) (down e) (down d) (2 ^ low f) (v .1) (w .1)))
         ∙ ap (λ (b : Bool). toBits f (fin b n d)) (sym (w .0))
 
 -- ---- two numbers, n and m units squared, and their roots
@@ -95,7 +104,8 @@ cond-same : {A : Type 0} (b : Bool) (x : A) → cond b x x ≡ x
 cond-same true x = refl
 cond-same false x = refl
 
-module _ (f : Format) (x y : Float) (n r m s : ℕ) (p : NearestRoot f x n r) (q : NearestRoot f y m s) (hx : T (fits f x)) (hy : T (fits f y)) where
+module _ (f : Format) (x y : Float) (n r m s : ℕ) (p : NearestRoot f x n r) (q : NearestRoot f y m s) (hx : T (fits f x))
+    (hy : T (fits f y)) where
   ordered : n < m → r ≤ s
   ordered h = go (decLe r s)
     where
@@ -108,13 +118,19 @@ module _ (f : Format) (x y : Float) (n r m s : ℕ) (p : NearestRoot f x n r) (q
           absurd (omega arith)
 
   one : n ≡ m → x ≡ y
-  one e = same-number f x y m (2 ^ low f * 2 ^ low f) (mul-pos (pow-pos (low f)) (pow-pos (low f))) hx hy (subst (λ (z : ℕ). HasValue x false z (2 ^ low f * 2 ^ low f)) e (p .number)) (q .number)
+  one e =
+      same-number f x y m (2 ^ low f * 2 ^ low f) (mul-pos (pow-pos (low f)) (pow-pos (low f))) hx hy
+      (subst (λ (z : ℕ). HasValue x false z (2 ^ low f * 2 ^ low f)) e (p .number)) (q .number)
 
   mono : T (le x y) → T (le (rootOf f x) (rootOf f y))
   mono h =
-      elim (eq-or-lt-of-le (le-is x y n m (2 ^ low f * 2 ^ low f) (mul-pos (pow-pos (low f)) (pow-pos (low f))) (p .number) (q .number) h)) [
-        | inl e ↦ subst (λ (z : Float). T (le (rootOf f x) (rootOf f z))) (one e) (le-of-values (rootOf f x) (rootOf f x) r (2 ^ low f) r (2 ^ low f) (pow-pos (low f)) (pow-pos (low f)) (p .root) (p .root) (le-refl (r * 2 ^ low f)))
-        | inr l ↦ le-of-values (rootOf f x) (rootOf f y) r (2 ^ low f) s (2 ^ low f) (pow-pos (low f)) (pow-pos (low f)) (p .root) (q .root) (mul-le-mul-right (2 ^ low f) (ordered l))
+      let some = mul-pos (pow-pos (low f)) (pow-pos (low f)) in
+      elim (eq-or-lt-of-le (le-is x y n m (2 ^ low f * 2 ^ low f) some (p .number) (q .number) h)) [
+        | inl e ↦ subst (λ (z : Float). T (le (rootOf f x) (rootOf f z))) (one e)
+            (le-of-values (rootOf f x) (rootOf f x) r (2 ^ low f) r (2 ^ low f) (pow-pos (low f)) (pow-pos (low f)) (p .root) (p .root)
+            (le-refl (r * 2 ^ low f)))
+        | inr l ↦ le-of-values (rootOf f x) (rootOf f y) r (2 ^ low f) s (2 ^ low f) (pow-pos (low f)) (pow-pos (low f)) (p .root) (q .root)
+            (mul-le-mul-right (2 ^ low f) (ordered l))
       ]
 
   -- where y is the larger number, its root is the larger one, or both roots are one value
@@ -122,7 +138,8 @@ module _ (f : Format) (x y : Float) (n r m s : ℕ) (p : NearestRoot f x n r) (q
   upper h =
       elim (eq-or-lt-of-le (ordered h)) [
         | inl e ↦
-            rw (same-number f (rootOf f x) (rootOf f y) s (2 ^ low f) (pow-pos (low f)) (root-fits f x hx) (root-fits f y hy) (subst (λ (z : ℕ). HasValue (rootOf f x) false z (2 ^ low f)) e (p .root)) (q .root))
+            rw (same-number f (rootOf f x) (rootOf f y) s (2 ^ low f) (pow-pos (low f)) (root-fits f x hx) (root-fits f y hy)
+            (subst (λ (z : ℕ). HasValue (rootOf f x) false z (2 ^ low f)) e (p .root)) (q .root))
             (cond-same (ltb r s) (rootOf f y))
         | inr l ↦ rw (lt-ltb r s l)
       ]
@@ -136,11 +153,17 @@ unfolding rootOf
 rooted f zero e h = (
   0,
   0,
-  record { number = zero-value e (2 ^ low f * 2 ^ low f); in-format = root-fits f (fin false zero e) h; root = zero-value e (2 ^ low f); no-nearer = λ z y t w. (λ l. absurd (omega arith), λ l. omega arith) },
+  record {
+    number = zero-value e (2 ^ low f * 2 ^ low f);
+    in-format = root-fits f (fin false zero e) h;
+    root = zero-value e (2 ^ low f);
+    no-nearer = λ z y t w. (λ l. absurd (omega arith), λ l. omega arith);
+  },
 )
 rooted f (suc m) e h = correctly-rounded f (fin false (suc m) e) h (lt→ltb 0 (suc m) (omega arith))
 
-finite-largest : (f : Format) (x y : Float) (n r m s : ℕ) → NearestRoot f x n r → NearestRoot f y m s → T (fits f x) → T (fits f y) → largestOf (rootOf f x) (rootOf f y) ≡ rootOf f (largestOf x y)
+finite-largest : (f : Format) (x y : Float) (n r m s : ℕ) → NearestRoot f x n r → NearestRoot f y m s → T (fits f x) → T (fits f y)
+    → largestOf (rootOf f x) (rootOf f y) ≡ rootOf f (largestOf x y)
 finite-largest f x y n r m s p q hx hy =
     largest-is (rootOf f x) (rootOf f y) r s (2 ^ low f) (pow-pos (low f)) (p .root) (q .root)
     ∙ go (decLe m n)
@@ -181,7 +204,8 @@ nan-last (inf s) = refl
 nan-last (fin s m e) = refl
 
 -- the larger of two roots is the root of the larger number
-pub largest-root : (f : Format) (x y : Float) → T (fits f x) → T (fits f y) → T (unsigned x) → T (unsigned y) → largestOf (rootOf f x) (rootOf f y) ≡ rootOf f (largestOf x y)
+pub largest-root : (f : Format) (x y : Float) → T (fits f x) → T (fits f y) → T (unsigned x) → T (unsigned y)
+    → largestOf (rootOf f x) (rootOf f y) ≡ rootOf f (largestOf x y)
 unfolding rootOf largestOf isNan
 largest-root f nan y hx hy a b = refl
 largest-root f (inf true) y hx hy a b = absurd a
@@ -207,7 +231,8 @@ below-top (inf s) a c h = absurd h
 below-top (fin s m e) a c h = refl
 
 -- the root grows with the number
-pub root-mono : (f : Format) (x y : Float) → T (fits f x) → T (fits f y) → T (unsigned x) → T (unsigned y) → le x y ≡ true → le (rootOf f x) (rootOf f y) ≡ true
+pub root-mono : (f : Format) (x y : Float) → T (fits f x) → T (fits f y) → T (unsigned x) → T (unsigned y) → le x y ≡ true
+    → le (rootOf f x) (rootOf f y) ≡ true
 unfolding rootOf le
 root-mono f nan y hx hy a b h = absurd (true≢false (sym h))
 root-mono f (inf true) y hx hy a b h = absurd a
@@ -218,7 +243,8 @@ root-mono f (inf false) (inf false) hx hy a b h = refl
 root-mono f (inf false) (fin t n d) hx hy a b h = absurd (true≢false (sym h))
 root-mono f (fin false m e) nan hx hy a b h = absurd (true≢false (sym h))
 root-mono f (fin false m e) (inf true) hx hy a b h = absurd b
-root-mono f (fin false m e) (inf false) hx hy a b h = let p = rooted f m e hx in below-top (rootOf f (fin false m e)) (p .1) (2 ^ low f) (p .2 .root)
+root-mono f (fin false m e) (inf false) hx hy a b h =
+    let p = rooted f m e hx in below-top (rootOf f (fin false m e)) (p .1) (2 ^ low f) (p .2 .root)
 root-mono f (fin false m e) (fin true n d) hx hy a b h = absurd b
 root-mono f (fin false m e) (fin false n d) hx hy a b h =
     let p = rooted f m e hx in

@@ -45,7 +45,9 @@ only-nan (inf s) h = absurd (holds h)
 only-nan (fin s m e) h = absurd (holds h)
 
 pub above-infinity : (b : ℕ) → 0x7ff0_0000_0000_0000 < b % 2 ^ 63 → div binary64 (ofBits binary64 0) (ofBits binary64 0) ≡ ofBits binary64 b
-above-infinity b h = quotient ∙ only-nan (ofBits binary64 b) (sym (nanBits-is binary64 b) ∙ nanBits-above binary64 b ∙ lt-ltb 0x7ff0_0000_0000_0000 (b % 2 ^ 63) h)
+above-infinity b h =
+    quotient ∙ only-nan (ofBits binary64 b) (sym (nanBits-is binary64 b) ∙ nanBits-above binary64 b
+    ∙ lt-ltb 0x7ff0_0000_0000_0000 (b % 2 ^ 63) h)
 
 pub up-to-infinity : (b : ℕ) → b % 2 ^ 63 ≤ 0x7ff0_0000_0000_0000 → T (not (nanBits binary64 b))
 up-to-infinity b h = fails (nanBits-above binary64 b ∙ le-ltb 0x7ff0_0000_0000_0000 (b % 2 ^ 63) h)

@@ -112,8 +112,10 @@ nearest-root f num den n r y D e v g =
     let apart = gap f k q y (kept-ge (prec f) w (two-le-pos (prec f) (two f))) g in
     subst (λ (z : ℕ). NoNearer n z y) (sym r-is)
     (⊎-elim
-    (λ p. subst (λ (z : ℕ). NoNearer n (z * s) y) (sym (p .0)) (low-one n q s y lo hi apart (le-of-mul-le-mul-right (le-trans (le-of-eq (four m n den e)) (p .1)) D)))
-    (λ p. subst (λ (z : ℕ). NoNearer n (z * s) y) (sym (p .0)) (high-one n q s y lo hi apart (le-of-mul-le-mul-right (le-trans (p .1) (le-of-eq (sym (four m n den e)))) D)))
+    (λ p. subst (λ (z : ℕ). NoNearer n (z * s) y) (sym (p .0))
+    (low-one n q s y lo hi apart (le-of-mul-le-mul-right (le-trans (le-of-eq (four m n den e)) (p .1)) D)))
+    (λ p. subst (λ (z : ℕ). NoNearer n (z * s) y) (sym (p .0))
+    (high-one n q s y lo hi apart (le-of-mul-le-mul-right (le-trans (p .1) (le-of-eq (sym (four m n den e)))) D)))
     (picked q (4 * m) (M * M * den)))
   where
     next : (w q s : ℕ) → w < q * s + s → w + 1 ≤ (q + 1) * s
@@ -141,7 +143,8 @@ some-exponent : (f : Format) → 0 < emax f
 some-exponent binary32 = lit< tt
 some-exponent binary64 = lit< tt
 
-kept-under : (f : Format) (w c : ℕ) → w < 2 ^ (low f + emax f) → c ≤ suc (w / 2 ^ (size w - prec f)) → c * 2 ^ (size w - prec f) < 2 ^ (low f + suc (emax f))
+kept-under : (f : Format) (w c : ℕ) → w < 2 ^ (low f + emax f) → c ≤ suc (w / 2 ^ (size w - prec f))
+    → c * 2 ^ (size w - prec f) < 2 ^ (low f + suc (emax f))
 kept-under f w c W C =
     let k = size w - prec f in
     lt-of-le-of-lt (le-trans (mul-le-mul-right (2 ^ k) (le-trans C (kept-lt (prec f) w))) (le-of-eq (sym (pow-add 2 (prec f) k))))
@@ -157,9 +160,11 @@ bounded f (fin s zero e) n h v N = absurd (not-zero zero e (2 ^ low f * 2 ^ low 
 bounded f (fin s (suc m) e) n h v N =
     lt-of-mul-lt-mul-right (down e)
     (lt-of-le-of-lt (le-of-eq (sym (v .1)))
-    (lt-of-lt-of-le (mul-lt-mul-of-pos-right (in-format f s m e h .2) (mul-pos (pow-pos (low f)) (pow-pos (low f)))) (le-of-eq (mul-right-comm (2 ^ suc (emax f)) (down e) (2 ^ low f * 2 ^ low f)))))
+    (lt-of-lt-of-le (mul-lt-mul-of-pos-right (in-format f s m e h .2) (mul-pos (pow-pos (low f)) (pow-pos (low f))))
+    (le-of-eq (mul-right-comm (2 ^ suc (emax f)) (down e) (2 ^ low f * 2 ^ low f)))))
 
-finite-root : (f : Format) (num den n : ℕ) → 0 < den → num * (2 ^ low f * 2 ^ low f) ≡ n * den → n < 2 ^ suc (emax f) * (2 ^ low f * 2 ^ low f) → (r : ℕ) × HasValue (roundRoot f num den) false r (2 ^ low f)
+finite-root : (f : Format) (num den n : ℕ) → 0 < den → num * (2 ^ low f * 2 ^ low f) ≡ n * den
+    → n < 2 ^ suc (emax f) * (2 ^ low f * 2 ^ low f) → (r : ℕ) × HasValue (roundRoot f num den) false r (2 ^ low f)
 finite-root f num den n D e h =
     let m = num * (2 ^ low f * 2 ^ low f) in
     let w = floorRoot n in
@@ -170,14 +175,19 @@ finite-root f num den n D e h =
     let is : roundRoot f num den ≡ fromDigits f m den k q = from-whole f num den n D e in (
       nearest q o * 2 ^ k,
       subst (λ (z : Float). HasValue z false (nearest q o * 2 ^ k) (2 ^ low f)) (sym is)
-          (units-val f false (nearest q o) k (kept-under f w (nearest q o) (square-under w (low f) (emax f) n (floor-root n .reached) h (some-exponent f)) (nearest-le q o))),
+          (units-val f false (nearest q o) k (kept-under f w (nearest q o)
+          (square-under w (low f) (emax f) n (floor-root n .reached) h (some-exponent f)) (nearest-le q o))),
     )
 
 -- ---- the law
 squared : (f : Format) (x : Float) (y : ℕ) → HasValue x false y (2 ^ low f) → InUnits f x (y * 2 ^ low f)
 squared f nan y v = v
 squared f (inf s) y v = v
-squared f (fin s m e) y v = (v .0, sym (mul-assoc (m * up e) (2 ^ low f) (2 ^ low f)) ∙ ap (λ (z : ℕ). z * 2 ^ low f) (v .1) ∙ mul-right-comm y (down e) (2 ^ low f))
+squared f (fin s m e) y v = (
+  v .0,
+  sym (mul-assoc (m * up e) (2 ^ low f) (2 ^ low f)) ∙ ap (λ (z : ℕ). z * 2 ^ low f) (v .1)
+      ∙ mul-right-comm y (down e) (2 ^ low f),
+)
 
 pub correctly-rounded : CorrectlyRounded
 correctly-rounded f x h p =

@@ -1,9 +1,11 @@
--- The order of floats: what is below a value is below all that this value is at most (`lt-le`), and a value is not at most what is below it (`lt-not-le`).
+-- The order of floats: what is below a value is below all that this value is at most (`lt-le`),
+-- and a value is not at most what is below it (`lt-not-le`).
 -- Finite values are fractions with a sign, so both go by the signs; zeros of either sign are equal.
 use mathlib.Core.Path.{_≡_, refl, sym}
 use mathlib.Core.Logic.{inl, inr}
 use Prim.Native.Nat.{ℕ, _+_, _*_, _<_, _≤_, zero-le}
-use native.Mathlib.Nat.{le-of-lt, le-of-eq, lt-of-not-le, lt-of-le-of-lt, lt-of-lt-of-le, eq-zero-or-pos, mul-pos, mul-le-mul-right, mul-lt-mul-of-pos-right}
+use native.Mathlib.Nat.{le-of-lt, le-of-eq, lt-of-not-le, lt-of-le-of-lt, lt-of-lt-of-le, eq-zero-or-pos, mul-pos, mul-le-mul-right}
+use native.Mathlib.Nat.{mul-lt-mul-of-pos-right}
 use native.Mathlib.Omega.{arith}
 use mathlib.Core.Bool.{Bool, true, false, _&&_, _||_, true≢false}
 use lib.Dec.{ltb, eqb}
@@ -58,9 +60,11 @@ factor-pos : (x q r : ℕ) → 0 < r → 0 < x * q → 0 < x * r
 factor-pos x q r R h = mul-pos (first-pos x q h) R
 
 -- ---- signed fractions ±x / p, ±y / q and ±z / r
-signed : (s t u : Bool) (x y z p q r : ℕ) → 0 < p → 0 < r → below s (x * q) t (y * p) ≡ true → (below t (y * r) u (z * q) || level t (y * r) u (z * q)) ≡ true → below s (x * r) u (z * p) ≡ true
+signed : (s t u : Bool) (x y z p q r : ℕ) → 0 < p → 0 < r → below s (x * q) t (y * p) ≡ true
+    → (below t (y * r) u (z * q) || level t (y * r) u (z * q)) ≡ true → below s (x * r) u (z * p) ≡ true
 signed false true u x y z p q r P R h k = absurd (true≢false (sym h))
-signed false false false x y z p q r P R h k = lt-ltb (x * r) (z * p) (below-then x y z p q r R (ltb-true (x * q) (y * p) h) (at-most (y * r) (z * q) k))
+signed false false false x y z p q r P R h k =
+    lt-ltb (x * r) (z * p) (below-then x y z p q r R (ltb-true (x * q) (y * p) h) (at-most (y * r) (z * q) k))
 signed false false true x y z p q r P R h k =
     let a : 0 < y * r = factor-pos y p r R (lt-of-le-of-lt zero-le (ltb-true (x * q) (y * p) h)) in
     absurd (omega (arith, both-zero (y * r) (z * q) k .0))
@@ -78,7 +82,8 @@ signed true false false x y z p q r P R h k =
 signed true false true x y z p q r P R h k =
     lt-ltb (z * p) (x * r)
     (elim (eq-zero-or-pos (y * p)) [
-      | inl e ↦ then-below x y z p q r R (omega (arith, both-zero (y * r) (z * q) k .0, both-zero (y * r) (z * q) k .1)) (omega (arith, ltb-true 0 (x * q + y * p) h))
+      | inl e ↦ then-below x y z p q r R (omega (arith, both-zero (y * r) (z * q) k .0, both-zero (y * r) (z * q) k .1))
+          (omega (arith, ltb-true 0 (x * q + y * p) h))
       | inr l ↦
           let a : 0 < y * r = factor-pos y p r R l in
           absurd (omega (arith, both-zero (y * r) (z * q) k .0))
@@ -86,7 +91,8 @@ signed true false true x y z p q r P R h k =
 signed true true false x y z p q r P R h k =
     let a : 0 < x * r = factor-pos x q r R (lt-of-le-of-lt zero-le (ltb-true (y * p) (x * q) h)) in
     lt-ltb 0 (x * r + z * p) (omega arith)
-signed true true true x y z p q r P R h k = lt-ltb (z * p) (x * r) (then-below x y z p q r R (at-least (y * r) (z * q) k) (ltb-true (y * p) (x * q) h))
+signed true true true x y z p q r P R h k =
+    lt-ltb (z * p) (x * r) (then-below x y z p q r R (at-least (y * r) (z * q) k) (ltb-true (y * p) (x * q) h))
 
 -- what is below b is below all that b is at most
 pub lt-le : (a b c : Float) → lt a b ≡ true → le b c ≡ true → lt a c ≡ true
@@ -113,7 +119,8 @@ lt-le (fin s m e) (inf false) (fin u l g) h k = absurd (true≢false (sym k))
 lt-le (fin s m e) (fin t n d) nan h k = absurd (true≢false (sym k))
 lt-le (fin s m e) (fin t n d) (inf true) h k = absurd (true≢false (sym k))
 lt-le (fin s m e) (fin t n d) (inf false) h k = refl
-lt-le (fin s m e) (fin t n d) (fin u l g) h k = signed s t u (m * up e) (n * up d) (l * up g) (down e) (down d) (down g) (down-pos e) (down-pos g) h k
+lt-le (fin s m e) (fin t n d) (fin u l g) h k =
+    signed s t u (m * up e) (n * up d) (l * up g) (down e) (down d) (down g) (down-pos e) (down-pos g) h k
 
 -- ---- a value is not at most what is below it
 neither : (a b : ℕ) (u : Bool) → a < b → (ltb b a || (eqb b a && u)) ≡ false

@@ -1,7 +1,9 @@
--- What `rootOf` gives of a number that is (q * q + t) * 4 ^ k units squared: q times 2 ^ k units where t is at most q, and q + 1 times where it is more.
+-- What `rootOf` gives of a number that is (q * q + t) * 4 ^ k units squared: q times 2 ^ k units where t is at most q,
+-- and q + 1 times where it is more.
 use mathlib.Core.Path.{_≡_, sym, ap, _∙_, subst}
 use Prim.Native.Nat.{ℕ, zero, suc, _+_, _-_, _*_, _/_, _^_, _≤_, _<_, compare, Ordering}
-use native.Mathlib.Nat.{le-trans, le-of-eq, lt-of-lt-of-le, lt-of-not-le, not-le-of-lt, mul-le-mul-right, mul-pos, mul-div-cancel, div-eq-of-lt-le, zero-mul, lt-irrefl}
+use native.Mathlib.Nat.{le-trans, le-of-eq, lt-of-lt-of-le, lt-of-not-le, not-le-of-lt, mul-le-mul-right, mul-pos, mul-div-cancel}
+use native.Mathlib.Nat.{div-eq-of-lt-le, zero-mul, lt-irrefl}
 use native.Mathlib.Omega.{arith}
 use mathlib.Core.Bool.{Bool, true, false, cond, true≢false}
 use lib.IntN.{ℤ}
@@ -35,9 +37,11 @@ fromDigits f n den k q = units f false (nearest q (compare (4 * n) ((2 * q + 1) 
 abbrev pub fromWhole : Format → ℕ → ℕ → ℕ → Float
 fromWhole f n den w = fromDigits f n den (size w - prec f) (w / 2 ^ (size w - prec f))
 
-pub from-whole : (f : Format) (num den n : ℕ) → 0 < den → num * (2 ^ low f * 2 ^ low f) ≡ n * den → roundRoot f num den ≡ fromWhole f (num * (2 ^ low f * 2 ^ low f)) den (floorRoot n)
+pub from-whole : (f : Format) (num den n : ℕ) → 0 < den → num * (2 ^ low f * 2 ^ low f) ≡ n * den
+    → roundRoot f num den ≡ fromWhole f (num * (2 ^ low f * 2 ^ low f)) den (floorRoot n)
 unfolding roundRoot
-from-whole f num den n D e = ap (λ (x : ℕ). fromWhole f (num * (2 ^ low f * 2 ^ low f)) den (floorRoot x)) (ap (λ (x : ℕ). x / den) e ∙ mul-div-cancel n D)
+from-whole f num den n D e =
+    ap (λ (x : ℕ). fromWhole f (num * (2 ^ low f * 2 ^ low f)) den (floorRoot x)) (ap (λ (x : ℕ). x / den) e ∙ mul-div-cancel n D)
 
 next : (q p : ℕ) → q < p → q + 1 ≤ p
 next q p h = omega arith
@@ -51,7 +55,8 @@ module _ (f : Format) (num den n k q t : ℕ) (D : 0 < den) (e : num * (2 ^ low 
       let a : q * 2 ^ k ≤ w = root-ge n w (q * 2 ^ k) (floor-root n) (under n q t (2 ^ k) g) in
       let b : w < (q + 1) * 2 ^ k = root-lt n w ((q + 1) * 2 ^ k) (floor-root n) (over n q t (2 ^ k) (pow-pos k) g small) in
       let d : size w - prec f ≡ k =
-      drops (prec f) k w (two-le-pos (prec f) (two f)) (le-trans (mul-le-mul-right (2 ^ k) lo) a) (lt-of-lt-of-le b (mul-le-mul-right (2 ^ k) (next q (2 ^ prec f) hi))) in
+      drops (prec f) k w (two-le-pos (prec f) (two f)) (le-trans (mul-le-mul-right (2 ^ k) lo) a)
+      (lt-of-lt-of-le b (mul-le-mul-right (2 ^ k) (next q (2 ^ prec f) hi))) in
       from-whole f num den n D e
       ∙ ap (λ (x : ℕ). fromDigits f m den x (w / 2 ^ x)) d
       ∙ ap (λ (x : ℕ). fromDigits f m den k x) (div-eq-of-lt-le (2 ^ k) a b)
@@ -60,18 +65,21 @@ module _ (f : Format) (num den n k q t : ℕ) (D : 0 < den) (e : num * (2 ^ low 
   at-lower h =
       at-digits
       ∙ ap (λ (o : Ordering). units f false (nearest q o) k)
-      (compare-lt (4 * (num * (2 ^ low f * 2 ^ low f))) ((2 * q + 1) * 2 ^ k * ((2 * q + 1) * 2 ^ k) * den) (mid-above n den (num * (2 ^ low f * 2 ^ low f)) q t (2 ^ k) (pow-pos k) D e g h))
+      (compare-lt (4 * (num * (2 ^ low f * 2 ^ low f))) ((2 * q + 1) * 2 ^ k * ((2 * q + 1) * 2 ^ k) * den)
+      (mid-above n den (num * (2 ^ low f * 2 ^ low f)) q t (2 ^ k) (pow-pos k) D e g h))
 
   at-upper : q < t → roundRoot f num den ≡ units f false (suc q) k
   at-upper h =
       at-digits
       ∙ ap (λ (o : Ordering). units f false (nearest q o) k)
-      (compare-gt (4 * (num * (2 ^ low f * 2 ^ low f))) ((2 * q + 1) * 2 ^ k * ((2 * q + 1) * 2 ^ k) * den) (mid-below n den (num * (2 ^ low f * 2 ^ low f)) q t (2 ^ k) (pow-pos k) D e g h))
+      (compare-gt (4 * (num * (2 ^ low f * 2 ^ low f))) ((2 * q + 1) * 2 ^ k * ((2 * q + 1) * 2 ^ k) * den)
+      (mid-below n den (num * (2 ^ low f * 2 ^ low f)) q t (2 ^ k) (pow-pos k) D e g h))
 
 -- ---- `rootOf` of a value above zero
 pub not-zero : (m : ℕ) (e : ℤ) (c n : ℕ) → 0 < n → m * up e * c ≡ n * down e → m ≡ 0 → ⊥
 not-zero m e c n N h z =
-    lt-irrefl 0 (subst (λ (x : ℕ). 0 < x) (sym h ∙ ap (λ (y : ℕ). y * up e * c) z ∙ ap (λ (y : ℕ). y * c) (zero-mul (up e)) ∙ zero-mul c) (mul-pos N (down-pos e)))
+    lt-irrefl 0 (subst (λ (x : ℕ). 0 < x) (sym h ∙ ap (λ (y : ℕ). y * up e * c) z ∙ ap (λ (y : ℕ). y * c) (zero-mul (up e)) ∙ zero-mul c)
+    (mul-pos N (down-pos e)))
 
 -- x is n units squared, so that its root is that of n, in units
 abbrev pub InUnits : Format → Float → ℕ → Type 0
@@ -89,7 +97,8 @@ opened f (fin false m e) n v N = (
   down e,
   down-pos e,
   v .1,
-  ap (λ (b : Bool). cond b (fin false m e) (roundRoot f (m * up e) (down e))) (ne-eqb m 0 (not-zero m e (2 ^ low f * 2 ^ low f) n N (v .1))),
+  ap (λ (b : Bool). cond b (fin false m e) (roundRoot f (m * up e) (down e)))
+      (ne-eqb m 0 (not-zero m e (2 ^ low f * 2 ^ low f) n N (v .1))),
 )
 
 positive : (q t s n : ℕ) → 0 < q → 0 < s → n ≡ (q * q + t) * (s * s) → 0 < n
@@ -97,7 +106,8 @@ positive q t s n Q S e =
     let a : 0 < q * q * (s * s) = mul-pos (mul-pos Q Q) (mul-pos S S) in
     omega arith
 
-module _ (f : Format) (x : Float) (n k q t : ℕ) (v : InUnits f x n) (g : n ≡ (q * q + t) * (2 ^ k * 2 ^ k)) (lo : 2 ^ (prec f - 1) ≤ q) (hi : q < 2 ^ prec f) where
+module _ (f : Format) (x : Float) (n k q t : ℕ) (v : InUnits f x n) (g : n ≡ (q * q + t) * (2 ^ k * 2 ^ k)) (lo : 2 ^ (prec f - 1) ≤ q)
+    (hi : q < 2 ^ prec f) where
   above-zero : 0 < n
   above-zero = positive q t (2 ^ k) n (lt-of-lt-of-le (pow-pos (prec f - 1)) lo) (pow-pos k) g
 

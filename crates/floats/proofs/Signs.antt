@@ -33,7 +33,9 @@ either s false v w p q = q
 fields-signed : (f : Format) (s : Bool) (x t : ℕ) → Signed s (ofFields f s x t)
 unfolding ofFields
 fields-signed f s zero t = odd-signed (prec f) s t 0 (low f)
-fields-signed f s (suc x) t = either s (eqb (suc x) (ones f)) (cond (eqb t 0) (inf s) nan) (odd (prec f) s (hid f + t) x (low f)) (top-signed s (eqb t 0)) (odd-signed (prec f) s (hid f + t) x (low f))
+fields-signed f s (suc x) t =
+    either s (eqb (suc x) (ones f)) (cond (eqb t 0) (inf s) nan) (odd (prec f) s (hid f + t) x (low f)) (top-signed s (eqb t 0))
+    (odd-signed (prec f) s (hid f + t) x (low f))
 
 bits-signed : (f : Format) (b : ℕ) → Signed (leb (top f) b) (ofBits f b)
 unfolding ofBits

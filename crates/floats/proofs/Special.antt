@@ -60,7 +60,8 @@ unfolding ofFields
 below-fields f zero t h = below f (odd (prec f) true t 0 (low f)) (t * 2 ^ 0) (2 ^ low f) (omega arith) (odd-sign (prec f) true t 0 (low f))
 below-fields f (suc x) t h =
     either f (eqb (suc x) (ones f)) (cond (eqb t 0) (inf true) nan) (odd (prec f) true (hid f + t) x (low f)) (at-top f (eqb t 0))
-    (below f (odd (prec f) true (hid f + t) x (low f)) ((hid f + t) * 2 ^ x) (2 ^ low f) (mul-pos (lt-of-lt-of-le (pow-pos (prec f - 1)) (le-add-right (hid f) t)) (pow-pos x)) (odd-sign (prec f) true (hid f + t) x (low f)))
+    (below f (odd (prec f) true (hid f + t) x (low f)) ((hid f + t) * 2 ^ x) (2 ^ low f)
+    (mul-pos (lt-of-lt-of-le (pow-pos (prec f - 1)) (le-add-right (hid f) t)) (pow-pos x)) (odd-sign (prec f) true (hid f + t) x (low f)))
 
 below-bits : (b : ℕ) → 2 ^ 63 < b → b < 2 ^ 64 → rootOf binary64 (ofBits binary64 b) ≡ nan
 unfolding ofBits
@@ -68,11 +69,13 @@ below-bits b lo hi =
     ap (λ (s : Bool). rootOf binary64 (ofFields binary64 s (b % 2 ^ 63 / 2 ^ 52) (b % 2 ^ 52))) (le-leb (2 ^ 63) b (omega arith))
     ∙ below-fields binary64 (b % 2 ^ 63 / 2 ^ 52) (b % 2 ^ 52) (omega arith)
 
-pub root-below : (x : Float) → T (fits binary64 x) → 2 ^ 63 < toBits binary64 x → toBits binary64 x < 2 ^ 64 → div binary64 (ofBits binary64 0) (ofBits binary64 0) ≡ rootOf binary64 x
+pub root-below : (x : Float) → T (fits binary64 x) → 2 ^ 63 < toBits binary64 x → toBits binary64 x < 2 ^ 64
+    → div binary64 (ofBits binary64 0) (ofBits binary64 0) ≡ rootOf binary64 x
 root-below x h lo hi = quotient ∙ sym (ap (rootOf binary64) (sym (ofBits-toBits binary64 x h)) ∙ below-bits (toBits binary64 x) lo hi)
 
 -- ---- a pattern that is no NaN's, below the sign, is at most the infinity's
-pub at-most-infinity : (x : Float) → T (fits binary64 x) → T (not (isNan x)) → toBits binary64 x < 2 ^ 63 → toBits binary64 x ≤ 0x7ff0_0000_0000_0000
+pub at-most-infinity : (x : Float) → T (fits binary64 x) → T (not (isNan x)) → toBits binary64 x < 2 ^ 63
+    → toBits binary64 x ≤ 0x7ff0_0000_0000_0000
 at-most-infinity x h n l =
     let b = toBits binary64 x in
     let z : ltb 0x7ff0_0000_0000_0000 (b % 2 ^ 63) ≡ false =

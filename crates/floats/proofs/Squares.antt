@@ -1,7 +1,7 @@
 -- The whole root of a number, as `floorRoot` computes it, and how squares decide where a root lies. Nothing here is about floats.
 use mathlib.Core.Path.{_≡_, refl, sym, ap, _∙_}
 use Prim.Native.Nat.{ℕ, zero, suc, _+_, _*_, _/_, _^_, _≤_, _<_, compare, Ordering, Ordering·lt, Ordering·eq, Ordering·gt}
-use native.Mathlib.Nat.{le-antisymm, le-trans, le-of-eq, lt-of-lt-of-le, lt-of-le-of-lt, lt-of-not-le, not-le-of-lt, mul-le-mul}
+use native.Mathlib.Nat.{le-trans, le-of-eq, lt-of-lt-of-le, lt-of-le-of-lt, lt-of-not-le, not-le-of-lt, mul-le-mul}
 use native.Mathlib.Nat.{mul-lt-mul-of-pos-right, mul-pos, div-lt-iff-lt-mul, zero-lt-suc, pow-suc}
 use native.Mathlib.Omega.{arith}
 use mathlib.Core.Bool.{Bool, true, false, not, cond}
@@ -50,10 +50,6 @@ sq-lt-back a b h = lt-of-not-le (λ (g : b ≤ a). not-le-of-lt h (mul-le-mul g 
 -- n, between the squares of a and b, has its whole root between a and b
 pub root-ge : (n w a : ℕ) → WholeRoot n w → a * a ≤ n → a ≤ w
 root-ge n w a h l = let k : a < w + 1 = sq-lt-back a (w + 1) (lt-of-le-of-lt l (h .not-passed)) in omega arith
-
--- a number has one whole root
-pub one-root : (n r s : ℕ) → WholeRoot n r → WholeRoot n s → r ≡ s
-one-root n r s p q = le-antisymm (root-ge n s r q (p .reached)) (root-ge n r s p (q .reached))
 
 pub root-lt : (n w b : ℕ) → WholeRoot n w → n < b * b → w < b
 root-lt n w b h l = sq-lt-back w b (lt-of-le-of-lt (h .reached) l)

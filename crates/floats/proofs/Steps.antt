@@ -24,7 +24,8 @@ pub full-size : {b a h w q t : ℕ} → Scaling b a h → WholeRoot a w → Exte
 full-size {w = w} s r e = let k = half-size w s r in omega arith
 
 -- a * 4 ^ h is (a * 4 ^ 26) * 4 ^ k, for the k with h = 26 + k
-scaled : (a h w q t : ℕ) → 26 ≤ h → WholeRoot a w → Extended (2 ^ 26) w (a - w * w) q t → a * (2 ^ h * 2 ^ h) ≡ (q * q + t) * (2 ^ (h - 26) * 2 ^ (h - 26))
+scaled : (a h w q t : ℕ) → 26 ≤ h → WholeRoot a w → Extended (2 ^ 26) w (a - w * w) q t
+    → a * (2 ^ h * 2 ^ h) ≡ (q * q + t) * (2 ^ (h - 26) * 2 ^ (h - 26))
 scaled a h w q t H r e =
     ap (λ (p : ℕ). a * (p * p)) (ap (λ (k : ℕ). 2 ^ k) split ∙ pow-add 2 26 (h - 26))
     ∙ same (2 ^ 26) (2 ^ (h - 26))
@@ -47,17 +48,20 @@ module _ (b a h w q t : ℕ) (s : Scaling b a h) (r : WholeRoot a w) (e : Extend
   in-range = omega arith
 
   -- a root of p units, p a number of 53 digits or the next one
-  written : (p : ℕ) → 2 ^ 52 ≤ p → p ≤ 2 ^ 53 → rootOf binary64 (ofBits binary64 b) ≡ units binary64 false p (h - 26) → RootPattern b ((h - 26) * 2 ^ 52 + p)
+  written : (p : ℕ) → 2 ^ 52 ≤ p → p ≤ 2 ^ 53 → rootOf binary64 (ofBits binary64 b) ≡ units binary64 false p (h - 26)
+      → RootPattern b ((h - 26) * 2 ^ 52 + p)
   written p lo hi is =
       record { root = pack binary64 p (h - 26) lo hi in-range ∙ sym is; no-nan = pack-no-nan binary64 p (h - 26) lo hi in-range }
 
   pub kept : t ≤ q → RootPattern b ((h - 26) * 2 ^ 52 + q)
   kept l =
       written q (sized .0) (omega (arith, sized .1))
-      (root-lower binary64 (ofBits binary64 b) (a * (2 ^ h * 2 ^ h)) (h - 26) q t (s .value) (scaled a h w q t (s .from) r e) (sized .0) (sized .1) l)
+      (root-lower binary64 (ofBits binary64 b) (a * (2 ^ h * 2 ^ h)) (h - 26) q t (s .value) (scaled a h w q t (s .from) r e) (sized .0)
+      (sized .1) l)
 
   pub carried : q < t → RootPattern b ((h - 26) * 2 ^ 52 + (q + 1))
   carried l =
       rw (add-one q)
       (written (suc q) (omega (arith, sized .0)) (sized .1)
-      (root-upper binary64 (ofBits binary64 b) (a * (2 ^ h * 2 ^ h)) (h - 26) q t (s .value) (scaled a h w q t (s .from) r e) (sized .0) (sized .1) (e .small) l))
+      (root-upper binary64 (ofBits binary64 b) (a * (2 ^ h * 2 ^ h)) (h - 26) q t (s .value) (scaled a h w q t (s .from) r e) (sized .0)
+      (sized .1) (e .small) l))

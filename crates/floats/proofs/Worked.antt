@@ -1,4 +1,5 @@
--- Roots worked out from the definition: document 01's row, the root of the least positive f64, and its rules for -0, a negative number and +infinity.
+-- Roots worked out from the definition: document 01's row, the root of the least positive f64, and its rules for -0,
+-- a negative number and +infinity.
 use mathlib.Core.Path.{_≡_, refl}
 use lib.IntN.{negsuc}
 use mathlib.Core.Bool.{false}

@@ -3,12 +3,14 @@
 use mathlib.Core.Path.{_≡_, refl, sym, ap, _∙_}
 use mathlib.Core.Logic.{inl, inr}
 use Prim.Native.Nat.{ℕ, suc, _+_, _-_, _*_, _/_, _^_, _≤_, _<_}
-use native.Mathlib.Nat.{le-trans, le-of-eq, le-refl, lt-of-lt-of-le, lt-of-le-of-lt, eq-or-lt-of-le, mul-le-mul-right, mul-div-cancel, mul-lt-mul-of-pos-right, zero-add, pow-succ'}
+use native.Mathlib.Nat.{le-trans, le-of-eq, le-refl, lt-of-lt-of-le, lt-of-le-of-lt, eq-or-lt-of-le, mul-le-mul-right, mul-div-cancel}
+use native.Mathlib.Nat.{mul-lt-mul-of-pos-right, zero-add, pow-succ'}
 use native.Mathlib.Omega.{arith}
 use mathlib.Core.Bool.{Bool, true, false, cond}
 use lib.Dec.{T, ltb, ltb→lt}
 use lib.Pow.{pow-add, pow-pos, pow-lt}
-use lib.Ieee.{Float, nan, inf, fin, Format, prec, emax, low, up, down, size, odd, units, fits, isNan, hid, ones, top, ofBits, nanBits, toBits}
+use lib.Ieee.{Float, nan, inf, fin, Format, prec, emax, low, up, down, size, odd, units, fits, isNan, hid, ones, top, ofBits, nanBits}
+use lib.Ieee.{toBits}
 use lib.Ieee.Fits.{two, two-le-pos, down-pos, odd-fits, inf-fits}
 use lib.Ieee.Exact.{HasValue, units-val}
 use lib.Ieee.Bits.{ofBits-toBits, nanBits-is}
@@ -32,8 +34,10 @@ unfolding toBits
 bits-of f nan n v = absurd v
 bits-of f (inf s) n v = absurd v
 bits-of f (fin s m e) n v =
-    ap (λ (b : Bool). cond b (top f) 0 + (size (m * up e * 2 ^ low f / down e) - prec f) * hid f + m * up e * 2 ^ low f / down e / 2 ^ (size (m * up e * 2 ^ low f / down e) - prec f)) (v .0)
-    ∙ ap (λ (z : ℕ). 0 + (size z - prec f) * hid f + z / 2 ^ (size z - prec f)) (ap (λ (z : ℕ). z / down e) (v .1) ∙ mul-div-cancel n (down-pos e))
+    ap (λ (b : Bool). cond b (top f) 0 + (size (m * up e * 2 ^ low f / down e) - prec f) * hid f + m * up e * 2 ^ low f / down e / 2 ^
+    (size (m * up e * 2 ^ low f / down e) - prec f)) (v .0)
+    ∙ ap (λ (z : ℕ). 0 + (size z - prec f) * hid f + z / 2 ^ (size z - prec f))
+    (ap (λ (z : ℕ). z / down e) (v .1) ∙ mul-div-cancel n (down-pos e))
     ∙ ap (λ (z : ℕ). z + n / 2 ^ (size n - prec f)) (zero-add ((size n - prec f) * hid f))
 
 twice : (p : ℕ) → 0 < p → 2 ^ p ≡ 2 * 2 ^ (p - 1)
@@ -55,7 +59,8 @@ carried f q k e =
     let P : 0 < prec f = two-le-pos (prec f) (two f) in
     let t : q ≡ 2 * hid f = e ∙ twice (prec f) P in
     ap (written f) (same q k (hid f) t)
-    ∙ written-in f (hid f) (suc k) (le-refl (hid f)) (lt-of-lt-of-le (grows (hid f) (pow-pos (prec f - 1))) (le-of-eq (sym (twice (prec f) P))))
+    ∙ written-in f (hid f) (suc k) (le-refl (hid f)) (lt-of-lt-of-le (grows (hid f) (pow-pos (prec f - 1)))
+    (le-of-eq (sym (twice (prec f) P))))
     ∙ regroup k (hid f) q t
   where
     grows : (h : ℕ) → 0 < h → h < 2 * h
@@ -77,7 +82,9 @@ room : (p e k : ℕ) → 2 ≤ p → suc (suc k) < 2 * e + 1 → p + k < e + p -
 room p e k a b = omega arith
 
 in-range : (f : Format) (q k : ℕ) → q ≤ 2 ^ prec f → suc (suc k) < ones f → q * 2 ^ k < 2 ^ (low f + suc (emax f))
-in-range f q k hi h = lt-of-le-of-lt (le-trans (mul-le-mul-right (2 ^ k) hi) (le-of-eq (sym (pow-add 2 (prec f) k)))) (pow-lt (room (prec f) (emax f) k (two f) h))
+in-range f q k hi h =
+    lt-of-le-of-lt (le-trans (mul-le-mul-right (2 ^ k) hi) (le-of-eq (sym (pow-add 2 (prec f) k))))
+    (pow-lt (room (prec f) (emax f) k (two f) h))
 
 pub pack : (f : Format) (q k : ℕ) → hid f ≤ q → q ≤ 2 ^ prec f → suc (suc k) < ones f → ofBits f (k * hid f + q) ≡ units f false q k
 pack f q k lo hi h =
@@ -92,4 +99,5 @@ valued (fin t m e) s a c v = refl
 
 pub pack-no-nan : (f : Format) (q k : ℕ) → hid f ≤ q → q ≤ 2 ^ prec f → suc (suc k) < ones f → nanBits f (k * hid f + q) ≡ false
 pack-no-nan f q k lo hi h =
-    nanBits-is f (k * hid f + q) ∙ ap isNan (pack f q k lo hi h) ∙ valued (units f false q k) false (q * 2 ^ k) (2 ^ low f) (units-val f false q k (in-range f q k hi h))
+    nanBits-is f (k * hid f + q) ∙ ap isNan (pack f q k lo hi h)
+    ∙ valued (units f false q k) false (q * 2 ^ k) (2 ^ low f) (units-val f false q k (in-range f q k hi h))

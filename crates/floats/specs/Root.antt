@@ -25,9 +25,11 @@ unfolding rootOfPairs size
 floorRoot n = rootOfPairs (size n) n
 
 -- The value of the format that is nearest to the root of num / den, for a den above 0; of two that are equally near, the even one.
--- As in `round` of lib.Ieee, a unit is the format's smallest positive value, 2 ^ -low. There the root is that of n / den, and `whole` is its whole part.
--- Of that the format keeps the `prec` leading binary digits, `kept`, and drops `dropped` of them. So the result is `kept` or `kept + 1` times 2 ^ dropped units,
--- by the side of the mid-point of the two on which the root lies. `middle` is twice that mid-point, so 4 * n / den, the square of twice the root, is compared with its square.
+-- As in `round` of lib.Ieee, a unit is the format's smallest positive value, 2 ^ -low.
+-- There the root is that of n / den, and `whole` is its whole part.
+-- Of that the format keeps the `prec` leading binary digits, `kept`, and drops `dropped` of them.
+-- So the result is `kept` or `kept + 1` times 2 ^ dropped units, by the `side` of the mid-point of the two on which the root lies.
+-- `middle` is twice that mid-point, so 4 * n / den, the square of twice the root, is compared with its square.
 unfoldable pub roundRoot : Format → ℕ → ℕ → Float
 unfolding size units floorRoot
 roundRoot f num den =
@@ -36,7 +38,8 @@ roundRoot f num den =
     let dropped = size whole - prec f in
     let kept = whole / 2 ^ dropped in
     let middle = (2 * kept + 1) * 2 ^ dropped in
-    units f false (nearest kept (compare (4 * n) (middle * middle * den))) dropped
+    let side = compare (4 * n) (middle * middle * den) in
+    units f false (nearest kept side) dropped
 
 -- The root of a NaN is a NaN, of +infinity itself, of a zero that zero with its sign, and of any other number with the sign set a NaN.
 -- A number above zero is the fraction m * up e / down e, and its root is rounded once.

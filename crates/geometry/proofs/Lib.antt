@@ -1,4 +1,3 @@
 pub mod Answers
-pub mod Surveys
 pub mod WorkLists
 pub mod TurnFaces

@@ -12,5 +12,7 @@ use Rattle.inside.specs.Inside.{crossFace, containsOf, markedFrom, cross
 
 -- 'unfolding computed' opens them all
 unfoldable pub computed : Unit {0}
-unfolding ofBits add sub mul div lt le foldList foldPairs inThrees magnitudeOf largestOf cornersOf newellSide newellOf axisOf project2Of pointOf pointsOf facesOf meetsAt passes passSide inOutline alongOf distanceAhead rayCrosses crossFace containsOf markedFrom crossMarked phedContainsOf
+unfolding ofBits add sub mul div lt le foldList foldPairs inThrees magnitudeOf largestOf cornersOf newellSide newellOf axisOf project2Of
+    pointOf pointsOf facesOf meetsAt passes passSide inOutline alongOf distanceAhead rayCrosses crossFace containsOf markedFrom crossMarked
+    phedContainsOf
 computed = tt

@@ -1,4 +1,5 @@
--- Faces in one list with marks: what stands before the first mark is a face, and the rest of the list has the other faces.
+-- Faces in one list with marks: what stands before the first mark is a face, and the rest of the list has the other faces, so that the loop
+-- of `point_in_phed` takes in one face after the other.
 use mathlib.Core.Path.{_≡_, refl, sym, _∙_}
 use mathlib.Core.Logic.{_≢_}
 use mathlib.Core.Bool.{Bool, true, false}
@@ -65,7 +66,8 @@ pub record Marking (vs : List Point) (p : Point) (cs : List ℕ) (whole : Bool) 
   pub so : foldList (crossMarked vs p) (markedFaces (drop i cs)) s ≡ whole
 
 -- with no mark left there is no face left, or an empty one, which is skipped
-after-mark : (vs : List Point) (p : Point) (l : List ℕ) (s : Bool) → foldList (crossMarked vs p) (afterMark l) s ≡ foldList (crossMarked vs p) (markedFaces (drop 1 l)) s
+after-mark : (vs : List Point) (p : Point) (l : List ℕ) (s : Bool)
+    → foldList (crossMarked vs p) (afterMark l) s ≡ foldList (crossMarked vs p) (markedFaces (drop 1 l)) s
 unfolding foldList markedFrom crossMarked
 after-mark vs p [] s = refl
 after-mark vs p (c ∷ cs) s = refl
@@ -102,4 +104,6 @@ module _ (vs : List Point) where
   pub inside-marked : (cs : List ℕ) (i e : ℕ) → e ≡ i + beforeMark (drop i cs) → MarkedInside vs cs → Inside vs (take (e - i) (drop i cs))
   inside-marked cs i e q m =
       let k : e - i ≡ beforeMark (drop i cs) = omega arith in
-      rw k (open-inside (drop i cs) (record { holds = λ j h. rw (getD-drop i cs j 0) (m .holds (i + j) (omega (arith, length-drop i cs))) }))
+      let rest : MarkedInside vs (drop i cs) =
+      record { holds = λ j h. rw (getD-drop i cs j 0) (m .holds (i + j) (omega (arith, length-drop i cs))) } in
+      rw k (open-inside (drop i cs) rest)

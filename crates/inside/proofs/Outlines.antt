@@ -1,4 +1,4 @@
--- The ray and a face: a face's points in the plane, a stretch of corners, a face of no corners, and sides that pass.
+-- The ray and a face: a face's points in the plane, a face of no corners, and sides that pass or do not, for the tests that the ray makes.
 use mathlib.Core.Path.{_≡_, refl, sym, _∙_}
 use mathlib.Core.Bool.{Bool, true, false, not, _&&_, Bool·beq}
 use mathlib.Core.List.{List, [], _∷_}
@@ -49,7 +49,8 @@ agreeing true false c e = cc
 agreeing false true c e = cc
 agreeing false false c e = refl
 
-pub passes-there : (p a b : Point) (x : Float) → x ≡ meetsAt p a b → not (Bool·beq (lt (at p 1) (at a 1)) (lt (at p 1) (at b 1))) ≡ true → lt (at p 0) x ≡ passes p a b
+pub passes-there : (p a b : Point) (x : Float) → x ≡ meetsAt p a b
+    → not (Bool·beq (lt (at p 1) (at a 1)) (lt (at p 1) (at b 1))) ≡ true → lt (at p 0) x ≡ passes p a b
 unfolding passes
 passes-there p a b x q e = rw q (differing (lt (at p 1) (at a 1)) (lt (at p 1) (at b 1)) (lt (at p 0) (meetsAt p a b)) e)
 

@@ -1,4 +1,5 @@
--- A face that is parallel to the ray: its normal has a first part of 0, and that is as good as at right angles whatever the other parts are.
+-- A face that is parallel to the ray: its normal has a first part of 0, and that is as good as at right angles whatever the other parts
+-- are, so that `along` may answer at once.
 use mathlib.Core.Path.{_≡_, refl, sym, _∙_}
 use mathlib.Core.Bool.{Bool, true, false, not, _&&_, _||_, cond, Bool·beq}
 use mathlib.Core.Bool.{true≢false}

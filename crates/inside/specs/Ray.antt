@@ -1,4 +1,5 @@
--- ray_crosses_face: whether the ray from a point along +x crosses a face. Every step is one operation of f64, in the order that the Rust has.
+-- ray_crosses_face: whether the ray from a point along +x crosses a face. Every step
+-- is one operation of f64, in the order that the Rust has.
 use Prim.Native.Nat.{ℕ}
 use mathlib.Core.Bool.{Bool, true, false, not, _&&_}
 use mathlib.Core.List.{List, [], _∷_}
@@ -38,7 +39,10 @@ inOutline p ps = foldSides (passSide p) ps false
 -- ---- the ray and a face, whose corners are at `cs`
 -- the normal is as good as at right angles to the ray: |n[0]| ≤ 64·EPSILON·max|n|
 unfoldable pub alongOf : Point → Bool
-alongOf n = le (magnitudeOf (at n 0)) (epsilon64 *f largestOf (largestOf (magnitudeOf (at n 0)) (magnitudeOf (at n 1))) (magnitudeOf (at n 2)))
+alongOf n =
+    let x = magnitudeOf (at n 0) in
+    let largest = largestOf (largestOf x (magnitudeOf (at n 1))) (magnitudeOf (at n 2)) in
+    le x (epsilon64 *f largest)
 
 -- how far along the ray from p the plane of normal n through v is
 unfoldable pub distanceAhead : Point → Point → Point → Float

@@ -2,6 +2,7 @@
 ghost use mathlib.Core.Path.{_≡_};
 ghost use Prim.Native.Nat.{ℕ, _+_, _<_, _≤_};
 ghost use lib.ListN.{length, drop};
+ghost use Rattle.places.specs.Lent.{old};
 ghost use Rattle.places.specs.Limits.{mostMarkedCorners};
 ghost use Rattle.flat.specs.Points.{verticesOf};
 ghost use Rattle.flat.specs.Steps.{Inside};
@@ -42,7 +43,7 @@ fn pass_side(p: [f64; 2], a: [f64; 2], b: [f64; 2], inside: bool) -> bool
 // Whether p is in the outline of a face, seen along an axis. A side's end is the next one's start, so each corner is read once.
 fn in_outline(coords: &[f64], face: &[u32], axis: usize, p: [f64; 2]) -> bool
     requires { ⌜ Inside (verticesOf (now coords)) (now face) ⌝ }
-    ensures { λ r. ⌜ r ≡ inOutline p (pointsOf (verticesOf (now (coords .entry))) axis (now (face .entry))) ⌝ }
+    ensures { λ r. ⌜ r ≡ inOutline p (pointsOf (verticesOf (old coords)) axis (old face)) ⌝ }
 {
     let n = face.len();
     if n == 0 {
@@ -61,7 +62,8 @@ fn in_outline(coords: &[f64], face: &[u32], axis: usize, p: [f64; 2]) -> bool
     pass_side(p, a, first, inside)
 }
 
-// Whether a normal is as good as at right angles to the ray; that is settled at once where its first part is 0, as in a box. The constant is 2^-46, which is 64 times the distance from 1 to the next f64.
+// Whether a normal is as good as at right angles to the ray; that is settled at once where its first part is 0, as in a box. The constant
+// is 2^-46, which is 64 times the distance from 1 to the next f64.
 fn along(n: [f64; 3]) -> bool
     ensures { λ r. ⌜ r ≡ alongOf n ⌝ }
 {
@@ -85,7 +87,7 @@ fn distance_ahead(p: [f64; 3], n: [f64; 3], v: [f64; 3]) -> f64
 // Ruled out: a program that lets t = 0 cross, so that a point on the far side is inside, and one that always drops x for the outline.
 fn ray_crosses_face(coords: &[f64], face: &[u32], p: [f64; 3]) -> bool
     requires { ⌜ Inside (verticesOf (now coords)) (now face) ⌝ }
-    ensures { λ r. ⌜ r ≡ rayCrosses (verticesOf (now (coords .entry))) p (now (face .entry)) ⌝ }
+    ensures { λ r. ⌜ r ≡ rayCrosses (verticesOf (old coords)) p (old face) ⌝ }
 {
     if face.len() == 0 {
         return false;
@@ -107,7 +109,7 @@ fn ray_crosses_face(coords: &[f64], face: &[u32], p: [f64; 3]) -> bool
 // A face that is crossed turns the answer round.
 fn cross_face(coords: &[f64], face: &[u32], p: [f64; 3], inside: bool) -> bool
     requires { ⌜ Inside (verticesOf (now coords)) (now face) ⌝ }
-    ensures { λ r. ⌜ r ≡ crossFace (verticesOf (now (coords .entry))) p (now (face .entry)) inside ⌝ }
+    ensures { λ r. ⌜ r ≡ crossFace (verticesOf (old coords)) p (old face) inside ⌝ }
 {
     if ray_crosses_face(coords, face, p) {
         !inside
@@ -120,7 +122,7 @@ fn cross_face(coords: &[f64], face: &[u32], p: [f64; 3], inside: bool) -> bool
 // Ruled out: a program that says yes at the first face that is crossed, and one that leaves out the last face.
 pub fn contains(coords: &[f64], corners: &[u32], ends: &[u32], p: [f64; 3]) -> bool
     requires { ⌜ Sound (now coords) (now corners) (now ends) ⌝ }
-    ensures { λ r. ⌜ r ≡ containsOf (verticesOf (now (coords .entry))) p (facesOf (now (corners .entry)) (now (ends .entry))) ⌝ }
+    ensures { λ r. ⌜ r ≡ containsOf (verticesOf (old coords)) p (facesOf (old corners) (old ends)) ⌝ }
 {
     let mut inside = false;
     let mut start = 0;
@@ -138,7 +140,7 @@ pub fn contains(coords: &[f64], corners: &[u32], ends: &[u32], p: [f64; 3]) -> b
 // Where the face that starts at a place ends: at the first mark from there on, or at the end of the list.
 fn face_end(cs: &[u32], start: usize) -> usize
     requires { ⌜ start ≤ length (now cs) ⌝ }
-    ensures { λ r. ⌜ r ≡ start + beforeMark (drop start (now (cs .entry))) ⌝ }
+    ensures { λ r. ⌜ r ≡ start + beforeMark (drop start (old cs)) ⌝ }
 {
     let mut i = start;
     while i < cs.len() {
@@ -153,7 +155,7 @@ fn face_end(cs: &[u32], start: usize) -> usize
 // A face of a list with marks turns the answer round where it is crossed. Under 3 corners it is skipped.
 fn cross_marked(coords: &[f64], face: &[u32], p: [f64; 3], inside: bool) -> bool
     requires { ⌜ Inside (verticesOf (now coords)) (now face) ⌝ }
-    ensures { λ r. ⌜ r ≡ crossMarked (verticesOf (now (coords .entry))) p (now (face .entry)) inside ⌝ }
+    ensures { λ r. ⌜ r ≡ crossMarked (verticesOf (old coords)) p (old face) inside ⌝ }
 {
     if face.len() >= 3 {
         cross_face(coords, face, p, inside)
@@ -167,7 +169,7 @@ fn cross_marked(coords: &[f64], face: &[u32], p: [f64; 3], inside: bool) -> bool
 pub fn point_in_phed(coords: &[f64], cs: &[u32], p: [f64; 3]) -> bool
     requires { ⌜ MarkedInside (verticesOf (now coords)) (now cs) ⌝ }
     requires { ⌜ length (now cs) ≤ mostMarkedCorners ⌝ }
-    ensures { λ r. ⌜ r ≡ phedContainsOf (verticesOf (now (coords .entry))) p (now (cs .entry)) ⌝ }
+    ensures { λ r. ⌜ r ≡ phedContainsOf (verticesOf (old coords)) p (old cs) ⌝ }
 {
     let mut inside = false;
     let mut start = 0;
@@ -190,7 +192,7 @@ fn one_if(b: bool) -> usize
 pub fn count_contained(coords: &[f64], corners: &[u32], ends: &[u32], queries: &[f64]) -> usize
     requires { ⌜ Sound (now coords) (now corners) (now ends) ⌝ }
     requires { ⌜ length (now queries) ≤ 770 ⌝ }
-    ensures { λ r. ⌜ r ≡ countOf (holds (verticesOf (now (coords .entry))) (facesOf (now (corners .entry)) (now (ends .entry)))) (verticesOf (now (queries .entry))) ⌝ }
+    ensures { λ r. ⌜ r ≡ countOf (holds (verticesOf (old coords)) (facesOf (old corners) (old ends))) (verticesOf (old queries)) ⌝ }
 {
     let n = queries.len() / 3;
     let mut found = 0;

@@ -1,4 +1,5 @@
--- Runs of stores one after the other, and the digits of a number.
+-- Text put behind text is one text (`then`), for every function that puts a line together; and the digits of a number, one after the
+-- other, for `put_decimal` and `put_hex`.
 use mathlib.Core.Path.{_≡_, refl, sym, ap, _∙_}
 use mathlib.Core.Bool.{Bool, true, false}
 use mathlib.Core.List.{List, [], _∷_, _++_}
@@ -7,9 +8,9 @@ use native.Mathlib.Nat.{add-zero, add-suc, suc-add, pow-suc}
 use native.Mathlib.Numerals.{add-one}
 use native.Mathlib.Omega.{arith}
 use lib.ListN.{length, getD, take, set, length-append}
-use lib.Seq.{sets, take-suc, length-sets, length-take-le}
+use lib.Seq.{sets, take-suc, length-take-le}
 use lib.Dec.{ltb}
-use borrow.Author.Tests.{ltb-true, ltb-false, lt-ltb, le-ltb}
+use borrow.Author.Tests.{lt-ltb, le-ltb}
 use Rattle.places.specs.Loops.{pick}
 use Rattle.lines.specs.Text.{Put, decimal, decimalOf, hexOf, digitOf}
 
@@ -18,7 +19,8 @@ sets-append l i [] ys = rw (add-zero i)
 sets-append l i (x ∷ xs) ys = rw (add-suc i (length xs), ← suc-add i (length xs)) (sets-append (set l i x) (suc i) xs ys)
 
 -- one after the other
-pub then : {b : List ℕ} {at : ℕ} {xs : List ℕ} {m : List ℕ} {p : ℕ} {ys : List ℕ} {a : List ℕ} {q : ℕ} → Put b at xs m p → Put m p ys a q → Put b at (xs ++ ys) a q
+pub then : {b : List ℕ} {at : ℕ} {xs : List ℕ} {m : List ℕ} {p : ℕ} {ys : List ℕ} {a : List ℕ} {q : ℕ}
+    → Put b at xs m p → Put m p ys a q → Put b at (xs ++ ys) a q
 then {b} {at} {xs} {m} {p} {ys} f g =
     record {
       holds = g .holds ∙ rw (f .holds, f .ends) (sym (sets-append b at xs ys));
@@ -26,7 +28,8 @@ then {b} {at} {xs} {m} {p} {ys} f g =
     }
 
 -- a step of the loop that copies
-pub sets-more : (l : List ℕ) (at : ℕ) (s : List ℕ) (i : ℕ) → i < length s → set (sets l at (take i s)) (at + i) (getD s i 0) ≡ sets l at (take (i + 1) s)
+pub sets-more : (l : List ℕ) (at : ℕ) (s : List ℕ) (i : ℕ) → i < length s
+    → set (sets l at (take i s)) (at + i) (getD s i 0) ≡ sets l at (take (i + 1) s)
 sets-more l at s i h =
     let e : length (take i s) ≡ i = length-take-le i s (omega arith) in
     rw (add-one i, take-suc s i 0, sets-append l at (take i s) (getD s i 0 ∷ []), e)

@@ -1,5 +1,7 @@
--- A number as text, and what a lent list of bytes holds after a text was put there.
+-- Text as bytes: a quoted text, a number in decimal and in hex, and what a lent list of bytes holds after a text was put there.
 use Prim.Native.Nat.{ℕ, zero, suc, _+_, _/_, _%_}
+use Prim.Native.Char.{code}
+use Prim.Native.String.{String, [] as []ᵗ, _∷_ as _∷ᵗ_}
 use mathlib.Core.Path.{_≡_}
 use mathlib.Core.List.{List, [], _∷_, _++_}
 use mathlib.Core.Bool.{Bool, true, false}
@@ -7,6 +9,11 @@ use lib.ListN.{length}
 use lib.Seq.{sets}
 use lib.Dec.{ltb}
 use Rattle.places.specs.Loops.{pick}
+
+-- the bytes of a quoted text, each of whose characters is one byte
+abbrev pub bytesOf : String → List ℕ
+bytesOf []ᵗ = []
+bytesOf (c ∷ᵗ s) = code c ∷ bytesOf s
 
 -- the text stands in the list from at on, all else is as it was, and next is past it
 pub record Put (before : List ℕ) (at : ℕ) (text : List ℕ) (after : List ℕ) (next : ℕ) : Type 0 where
@@ -31,7 +38,7 @@ unfoldable pub hexOf : ℕ → ℕ → List ℕ
 hexOf zero n = []
 hexOf (suc k) n = hexOf k (n / 16) ++ (digitOf (n % 16) ∷ [])
 
--- yes, no
+-- an answer in words
 abbrev pub yesOrNo : Bool → List ℕ
-yesOrNo true = 121 ∷ 101 ∷ 115 ∷ []
-yesOrNo false = 110 ∷ 111 ∷ []
+yesOrNo true = bytesOf "yes"
+yesOrNo false = bytesOf "no"

@@ -1,4 +1,5 @@
--- Which corner of a ring is cut off next. `ps` are the points of the ring's corners in the plane, in order; `dir` is the direction, +1 or −1.
+-- Which corner of a ring is cut off next. `ps` are the points of the ring's corners in the plane, in order;
+-- `dir` is the direction, +1 or −1.
 use Prim.Native.Nat.{ℕ}
 use mathlib.Core.Bool.{Bool, false, not, _&&_}
 use mathlib.Core.List.{List, []}

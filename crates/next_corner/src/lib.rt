@@ -2,12 +2,14 @@
 ghost use mathlib.Core.Path.{_≡_};
 ghost use Prim.Native.Nat.{ℕ, _<_};
 ghost use lib.ListN.{length};
+ghost use Rattle.places.specs.Lent.{old};
 ghost use Rattle.flat.specs.Flat.{summedAreaOf};
-ghost use Rattle.next_corner.specs.NextCorner.{directionOf, turnsOf, sameOf, strictlyIn, blocksOf, blockedOf, turnsAt, earAt, findEar, findTurn, findCorner};
+ghost use Rattle.next_corner.specs.NextCorner.{directionOf, turnsOf, sameOf, strictlyIn, blocksOf, blockedOf};
+ghost use Rattle.next_corner.specs.NextCorner.{turnsAt, earAt, findEar, findTurn, findCorner};
 
 // The summed area of a ring of points, and the direction in which it runs.
 fn summed_area(ps: &[[f64; 2]]) -> f64
-    ensures { λ r. ⌜ r ≡ summedAreaOf (now (ps .entry)) ⌝ }
+    ensures { λ r. ⌜ r ≡ summedAreaOf (old ps) ⌝ }
 {
     let n = ps.len();
     let mut s = 0.0;
@@ -22,7 +24,7 @@ fn summed_area(ps: &[[f64; 2]]) -> f64
 }
 
 pub fn direction(ps: &[[f64; 2]]) -> f64
-    ensures { λ r. ⌜ r ≡ directionOf (now (ps .entry)) ⌝ }
+    ensures { λ r. ⌜ r ≡ directionOf (old ps) ⌝ }
 {
     if summed_area(ps) >= 0.0 { 1.0 } else { -1.0 }
 }
@@ -68,7 +70,7 @@ fn blocks(a: [f64; 2], b: [f64; 2], c: [f64; 2], dir: f64, p: [f64; 2]) -> bool
 }
 
 fn blocked(ps: &[[f64; 2]], a: [f64; 2], b: [f64; 2], c: [f64; 2], dir: f64) -> bool
-    ensures { λ r. ⌜ r ≡ blockedOf (now (ps .entry)) a b c dir ⌝ }
+    ensures { λ r. ⌜ r ≡ blockedOf (old ps) a b c dir ⌝ }
 {
     let n = ps.len();
     let mut i = 0;
@@ -84,7 +86,7 @@ fn blocked(ps: &[[f64; 2]], a: [f64; 2], b: [f64; 2], c: [f64; 2], dir: f64) -> 
 // Whether the corner at place k turns the right way, and whether it is an ear.
 fn turns_at(ps: &[[f64; 2]], k: usize, dir: f64) -> bool
     requires { ⌜ k < length (now ps) ⌝ }
-    ensures { λ r. ⌜ r ≡ turnsAt (now (ps .entry)) dir k ⌝ }
+    ensures { λ r. ⌜ r ≡ turnsAt (old ps) dir k ⌝ }
 {
     let n = ps.len();
     let a = places::point(ps, places::prev(k, n));
@@ -95,7 +97,7 @@ fn turns_at(ps: &[[f64; 2]], k: usize, dir: f64) -> bool
 
 fn ear_at(ps: &[[f64; 2]], k: usize, dir: f64) -> bool
     requires { ⌜ k < length (now ps) ⌝ }
-    ensures { λ r. ⌜ r ≡ earAt (now (ps .entry)) dir k ⌝ }
+    ensures { λ r. ⌜ r ≡ earAt (old ps) dir k ⌝ }
 {
     let n = ps.len();
     let a = places::point(ps, places::prev(k, n));
@@ -109,7 +111,7 @@ fn ear_at(ps: &[[f64; 2]], k: usize, dir: f64) -> bool
 }
 
 fn find_ear(ps: &[[f64; 2]], dir: f64) -> places::Found
-    ensures { λ r. ⌜ r ≡ findEar (now (ps .entry)) dir ⌝ }
+    ensures { λ r. ⌜ r ≡ findEar (old ps) dir ⌝ }
 {
     let n = ps.len();
     let mut k = 0;
@@ -123,7 +125,7 @@ fn find_ear(ps: &[[f64; 2]], dir: f64) -> places::Found
 }
 
 fn find_turn(ps: &[[f64; 2]], dir: f64) -> places::Found
-    ensures { λ r. ⌜ r ≡ findTurn (now (ps .entry)) dir ⌝ }
+    ensures { λ r. ⌜ r ≡ findTurn (old ps) dir ⌝ }
 {
     let n = ps.len();
     let mut k = 0;
@@ -137,7 +139,7 @@ fn find_turn(ps: &[[f64; 2]], dir: f64) -> places::Found
 }
 
 pub fn find_corner(ps: &[[f64; 2]], dir: f64) -> places::Found
-    ensures { λ r. ⌜ r ≡ findCorner (now (ps .entry)) dir ⌝ }
+    ensures { λ r. ⌜ r ≡ findCorner (old ps) dir ⌝ }
 {
     let f = find_ear(ps, dir);
     match f {

@@ -2,7 +2,8 @@
 ghost use mathlib.Core.Path.{_≡_};
 ghost use Prim.Native.Nat.{ℕ, _<_, _≤_, _%_};
 ghost use lib.ListN.{length, getD, set};
-ghost use mathlib.Core.List.{[], _∷_, reverse};
+ghost use mathlib.Core.List.{[], reverse};
+ghost use Rattle.places.specs.Lent.{old, new};
 ghost use Rattle.places.specs.Steps.{swapped, overPairs};
 ghost use Rattle.places.specs.Stored.{inPairs, joined};
 ghost use Rattle.flat.specs.Points.{plusOf, overOf, widenOf, centroidOf, boundsOf};
@@ -40,26 +41,27 @@ fn widen2(p: [f64; 2], b: [[f64; 2]; 2]) -> [[f64; 2]; 2]
 // The point at place i.
 pub fn pair(ps: &[f64], i: usize) -> [f64; 2]
     requires { ⌜ i < length (inPairs (now ps)) ⌝ }
-    ensures { λ r. ⌜ r ≡ getD (inPairs (now (ps .entry))) i [] ⌝ }
+    ensures { λ r. ⌜ r ≡ getD (inPairs (old ps)) i [] ⌝ }
 {
     let k = i * 2;
     [places::num(ps, k), places::num(ps, k + 1)]
 }
 
-// The point (x, y) laid down at place i. Here and below, a number that stands after the last point stays as it was.
-fn put_pair(ps: &mut [f64], i: usize, x: f64, y: f64)
+// A point laid down at place i. Here and below, a number that stands after the last point stays as it was.
+// Ruled out: the point laid down from number i on; y laid down before x.
+pub fn put_pair(ps: &mut [f64], i: usize, p: [f64; 2])
     requires { ⌜ i < length (inPairs (now ps)) ⌝ }
-    ensures points { λ _. ⌜ inPairs (now (ps .exit)) ≡ set (inPairs (now (ps .entry))) i (x ∷ y ∷ []) ⌝ }
-    ensures over { λ _. ⌜ overPairs (now (ps .exit)) ≡ overPairs (now (ps .entry)) ⌝ }
+    ensures points { λ _. ⌜ inPairs (new ps) ≡ set (inPairs (old ps)) i p ⌝ }
+    ensures over { λ _. ⌜ overPairs (new ps) ≡ overPairs (old ps) ⌝ }
 {
     let k = i * 2;
-    ps[k] = x;
-    ps[k + 1] = y;
+    ps[k] = p[0];
+    ps[k + 1] = p[1];
 }
 
 // Twice the signed area.
 fn summed_area(ps: &[f64]) -> f64
-    ensures { λ r. ⌜ r ≡ summedAreaOf (inPairs (now (ps .entry))) ⌝ }
+    ensures { λ r. ⌜ r ≡ summedAreaOf (inPairs (old ps)) ⌝ }
 {
     let mut s = 0.0;
     let n = ps.len() / 2;
@@ -75,9 +77,10 @@ fn summed_area(ps: &[f64]) -> f64
 }
 
 // The signed area: half the sum.
-// Ruled out: leaving out the side from the last point to the first; measuring from the first point instead of the origin, which rounds otherwise.
+// Ruled out: leaving out the side from the last point to the first;
+// measuring from the first point instead of the origin, which rounds otherwise.
 pub fn signed_area2(ps: &[f64]) -> f64
-    ensures { λ r. ⌜ r ≡ signedAreaOf (inPairs (now (ps .entry))) ⌝ }
+    ensures { λ r. ⌜ r ≡ signedAreaOf (inPairs (old ps)) ⌝ }
 {
     summed_area(ps) / 2.0
 }
@@ -86,19 +89,19 @@ pub fn signed_area2(ps: &[f64]) -> f64
 fn swap_points(ps: &mut [f64], i: usize, j: usize)
     requires { ⌜ i < length (inPairs (now ps)) ⌝ }
     requires { ⌜ j < length (inPairs (now ps)) ⌝ }
-    ensures points { λ _. ⌜ inPairs (now (ps .exit)) ≡ swapped [] i j (inPairs (now (ps .entry))) ⌝ }
-    ensures over { λ _. ⌜ overPairs (now (ps .exit)) ≡ overPairs (now (ps .entry)) ⌝ }
+    ensures points { λ _. ⌜ inPairs (new ps) ≡ swapped [] i j (inPairs (old ps)) ⌝ }
+    ensures over { λ _. ⌜ overPairs (new ps) ≡ overPairs (old ps) ⌝ }
 {
     let a = pair(ps, i);
     let b = pair(ps, j);
-    put_pair(ps, i, b[0], b[1]);
-    put_pair(ps, j, a[0], a[1]);
+    put_pair(ps, i, b);
+    put_pair(ps, j, a);
 }
 
 // The points in the other order: each of the first half changes places with the one that is as far from the end.
 fn reverse_points(ps: &mut [f64])
-    ensures points { λ _. ⌜ inPairs (now (ps .exit)) ≡ reverse (inPairs (now (ps .entry))) ⌝ }
-    ensures over { λ _. ⌜ overPairs (now (ps .exit)) ≡ overPairs (now (ps .entry)) ⌝ }
+    ensures points { λ _. ⌜ inPairs (new ps) ≡ reverse (inPairs (old ps)) ⌝ }
+    ensures over { λ _. ⌜ overPairs (new ps) ≡ overPairs (old ps) ⌝ }
 {
     let n = ps.len() / 2;
     let half = n / 2;
@@ -113,7 +116,7 @@ fn reverse_points(ps: &mut [f64])
 // Ruled out: reversing the numbers, which changes each point's x for its y; reversing where the area is 0 or not a number.
 pub fn into_ccw2(ps: &mut [f64])
     requires { ⌜ length (now ps) % 2 ≡ 0 ⌝ }
-    ensures { λ _. ⌜ now (ps .exit) ≡ joined (ccwOf (inPairs (now (ps .entry)))) ⌝ }
+    ensures { λ _. ⌜ new ps ≡ joined (ccwOf (inPairs (old ps))) ⌝ }
 {
     if signed_area2(ps) < 0.0 {
         reverse_points(ps);
@@ -123,7 +126,7 @@ pub fn into_ccw2(ps: &mut [f64])
 // The points added in order, and each coordinate divided by their number.
 pub fn vertex_centroid2(ps: &[f64]) -> [f64; 2]
     requires { ⌜ length (now ps) ≤ 1024 ⌝ }
-    ensures { λ r. ⌜ r ≡ centroidOf 2 (inPairs (now (ps .entry))) ⌝ }
+    ensures { λ r. ⌜ r ≡ centroidOf 2 (inPairs (old ps)) ⌝ }
 {
     let n = ps.len() / 2;
     let mut s = [0.0, 0.0];
@@ -139,7 +142,7 @@ pub fn vertex_centroid2(ps: &[f64]) -> [f64; 2]
 // The corner of least coordinates and that of largest.
 // Ruled out: starting from the box of 0, which draws the origin in; a NaN coordinate taken over, where the Rust's min and max pass it by.
 pub fn bounds2(ps: &[f64]) -> [[f64; 2]; 2]
-    ensures { λ r. ⌜ r ≡ boundsOf 2 (inPairs (now (ps .entry))) ⌝ }
+    ensures { λ r. ⌜ r ≡ boundsOf 2 (inPairs (old ps)) ⌝ }
 {
     let n = ps.len() / 2;
     let top = 1.0 / 0.0;

@@ -1,4 +1,5 @@
 -- What a turned corner list has to do with the list before: as many corners, the same faces turned, and a sound cell again.
+-- The loop of `into_ccw` uses the first; the others say to a reader that `outwardCorners` is what its name says.
 use mathlib.Core.Path.{_≡_, refl, _∙_, ap}
 use mathlib.Core.Logic.{_⊎_, inl, inr, ⊎-elim}
 use mathlib.Core.Bool.{Bool, true, false}
@@ -42,7 +43,9 @@ module _ (vs : List Point) (reference : Point) (face : List ℕ) where
   each-outward {P} h = ⊎-elim (λ e. rw e h) (λ e. rw e (record { holds = back })) outward-either
     where
       back : (k : ℕ) → k < length (reverse face) → P (getD (reverse face) k 0)
-      back k g = let n : length (reverse face) ≡ length face = length-reverse face in rw (reverse-at 0 face k (omega arith)) (h .holds (length face - 1 - k) (omega arith))
+      back k g =
+          let n : length (reverse face) ≡ length face = length-reverse face in
+          rw (reverse-at 0 face k (omega arith)) (h .holds (length face - 1 - k) (omega arith))
 
 -- ---- the faces of the corners c, each changed by an f that keeps the number of corners, one after the other
 module _ (f : List ℕ → List ℕ) (keeps : (l : List ℕ) → length (f l) ≡ length l) (c : List ℕ) where
@@ -54,19 +57,28 @@ module _ (f : List ℕ → List ℕ) (keeps : (l : List ℕ) → length (f l) �
       rw (length-append, keeps (slice p e c), length-slice p e c (s .upto), length-joined e es (s .rest)) (omega arith)
 
   -- after the corners `done`, up to p, they are the faces from p on of the whole list
-  faces-joined : (done : List ℕ) (p : ℕ) (es : List ℕ) → length done ≡ p → T (rises p es (length c)) → facesFrom p (done ++ joined (map f (facesFrom p c es))) es ≡ map f (facesFrom p c es)
+  faces-joined : (done : List ℕ) (p : ℕ) (es : List ℕ) → length done ≡ p → T (rises p es (length c))
+      → facesFrom p (done ++ joined (map f (facesFrom p c es))) es ≡ map f (facesFrom p c es)
   unfolding joined
   faces-joined done p [] n t = refl
   faces-joined done p (e ∷ es) n t =
       let s : Step p (e ∷ es) (length c) 0 e = rises-more p (e ∷ es) (length c) 0 e (omega arith) refl t in
+      let face = f (slice p e c) in
       let rest = joined (map f (facesFrom e c es)) in
-      let m : length (done ++ f (slice p e c)) ≡ e = rw (length-append, keeps (slice p e c), length-slice p e c (s .upto)) (omega arith) in
-      rw (← append-assoc done (f (slice p e c)) rest, take-at (done ++ f (slice p e c)) rest e m, drop-at done (f (slice p e c)) p n, faces-joined (done ++ f (slice p e c)) e es m (s .rest))
+      let m : length (done ++ face) ≡ e = rw (length-append, keeps (slice p e c), length-slice p e c (s .upto)) (omega arith) in
+      rw (
+        ← append-assoc done face rest,
+        take-at (done ++ face) rest e m,
+        drop-at done face p n,
+        faces-joined (done ++ face) e es m (s .rest),
+      )
 
-  each-joined : {P : ℕ → Type 0} → ((l : List ℕ) → Each 0 P l → Each 0 P (f l)) → Each 0 P c → (p : ℕ) (es : List ℕ) → Each 0 P (joined (map f (facesFrom p c es)))
+  each-joined : {P : ℕ → Type 0} → ((l : List ℕ) → Each 0 P l → Each 0 P (f l)) → Each 0 P c → (p : ℕ) (es : List ℕ)
+      → Each 0 P (joined (map f (facesFrom p c es)))
   unfolding joined
   each-joined g h p [] = each-nil
-  each-joined g h p (e ∷ es) = each-append (f (slice p e c)) (joined (map f (facesFrom e c es))) (g (slice p e c) (each-slice p e c h)) (each-joined g h e es)
+  each-joined g h p (e ∷ es) =
+      each-append (f (slice p e c)) (joined (map f (facesFrom e c es))) (g (slice p e c) (each-slice p e c h)) (each-joined g h e es)
 
   empty-mapped : (fs : List (List ℕ)) → anyOf isEmpty (map f fs) ≡ anyOf isEmpty fs
   unfolding anyOf isEmpty
@@ -87,8 +99,12 @@ module _ (vs : List Point) (c es : List ℕ) (ordered : T (rises 0 es (length c)
 
   -- so each is the face before or its reverse
   pub face-either : (k : ℕ) → k < length es
-      → (getD (facesOf (outwardCorners vs (facesOf c es)) es) k [] ≡ getD (facesOf c es) k []) ⊎ (getD (facesOf (outwardCorners vs (facesOf c es)) es) k [] ≡ reverse (getD (facesOf c es) k []))
-  face-either k h = rw (faces-turned, map-at (outwardOf vs (centroidOf 3 vs)) (facesOf c es) k [] [] (rw (length-faces c es) h)) (outward-either vs (centroidOf 3 vs) (getD (facesOf c es) k []))
+      → (getD (facesOf (outwardCorners vs (facesOf c es)) es) k [] ≡ getD (facesOf c es) k [])
+      ⊎ (getD (facesOf (outwardCorners vs (facesOf c es)) es) k [] ≡ reverse (getD (facesOf c es) k []))
+  face-either k h =
+      let reference = centroidOf 3 vs in
+      rw (faces-turned, map-at (outwardOf vs reference) (facesOf c es) k [] [] (rw (length-faces c es) h))
+      (outward-either vs reference (getD (facesOf c es) k []))
 
   -- and none is empty where none was
   pub empty-turned : emptyRefused (outwardCorners vs (facesOf c es)) es ≡ emptyRefused c es
@@ -101,6 +117,7 @@ pub sound-turned : (coords : List Float) (c es : List ℕ) → Sound coords c es
 unfolding outwardCorners facesOf
 sound-turned coords c es s =
     let vs = verticesOf coords in
+    let reference = centroidOf 3 vs in
     let n : length (outwardCorners vs (facesOf c es)) ≡ length c = length-turned vs c es (s .ordered) in
     record {
       threes = s .threes;
@@ -109,5 +126,5 @@ sound-turned coords c es s =
       few-faces = s .few-faces;
       few-corners = rw n (s .few-corners);
       ordered = rw n (s .ordered);
-      inside = each-joined (outwardOf vs (centroidOf 3 vs)) (length-outward vs (centroidOf 3 vs)) c (λ l h. each-outward vs (centroidOf 3 vs) l h) (s .inside) 0 es;
+      inside = each-joined (outwardOf vs reference) (length-outward vs reference) c (λ l h. each-outward vs reference l h) (s .inside) 0 es;
     }

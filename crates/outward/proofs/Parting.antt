@@ -1,4 +1,5 @@
--- The loop over the vertices that remembers on which sides of a plane it has seen one, and passes over the corners of a face.
+-- The loop over the vertices that remembers on which sides of a plane it has seen one, and passes over the corners of a face: its start,
+-- its two ways on and its end, for `plane_parts`.
 use mathlib.Core.Path.{_≡_, refl, sym, _∙_}
 use mathlib.Core.Bool.{Bool, true, false, _&&_}
 use mathlib.Core.List.{List, [], _∷_}
@@ -43,7 +44,11 @@ none-left false b = refl
 module _ (n : Point) (d eps : Float) where
   sees : (p : Point) (ps : List Point) (seen : Seen) → seenAfter n d eps (seeOf n d eps p seen) ps ≡ seenAfter n d eps seen (p ∷ ps)
   unfolding anyOf seeOf
-  sees p ps seen = rw (seen-or (seen .above) (above n d eps p) (anyOf (above n d eps) ps), seen-or (seen .below) (below n d eps p) (anyOf (below n d eps) ps))
+  sees p ps seen =
+      rw (
+        seen-or (seen .above) (above n d eps p) (anyOf (above n d eps) ps),
+        seen-or (seen .below) (below n d eps p) (anyOf (below n d eps) ps),
+      )
 
   -- the vertex v is looked at, or passed over
   looked : (face : List ℕ) (vs : List Point) (v : ℕ) (seen : Seen) → v < length vs
@@ -51,13 +56,13 @@ module _ (n : Point) (d eps : Float) where
       (otherVerticesFrom face (v + 1) (drop (v + 1) vs))
       ≡ seenAfter n d eps seen (otherVerticesFrom face v (drop v vs))
   unfolding otherVerticesFrom
-  looked face vs v seen h = rw (drop-more vs v [] h) (go (hasCorner face v))
+  looked face vs v seen h = rw (drop-more vs v [] h) (go (hasCorner face v) (otherVerticesFrom face (v + 1) (drop (v + 1) vs)))
     where
-      go : (b : Bool)
-          → seenAfter n d eps (pick b seen (seeOf n d eps (vertexOf vs v) seen)) (otherVerticesFrom face (v + 1) (drop (v + 1) vs))
-          ≡ seenAfter n d eps seen (pick b (otherVerticesFrom face (v + 1) (drop (v + 1) vs)) (vertexOf vs v ∷ otherVerticesFrom face (v + 1) (drop (v + 1) vs)))
-      go true = refl
-      go false = sees (vertexOf vs v) (otherVerticesFrom face (v + 1) (drop (v + 1) vs)) seen
+      go : (b : Bool) (rest : List Point)
+          → seenAfter n d eps (pick b seen (seeOf n d eps (vertexOf vs v) seen)) rest
+          ≡ seenAfter n d eps seen (pick b rest (vertexOf vs v ∷ rest))
+      go true rest = refl
+      go false rest = sees (vertexOf vs v) rest seen
 
 module _ {n : Point} {d eps : Float} {face : List ℕ} {vs : List Point} where
   pub part-start : Parting n d eps face vs (planeParts n d eps (otherVertices vs face)) 0 (record { above = false; below = false })
@@ -66,15 +71,18 @@ module _ {n : Point} {d eps : Float} {face : List ℕ} {vs : List Point} where
 
   module _ {whole : Bool} {v : ℕ} {seen seen′ : Seen} where
     -- the next turn comes to the same
-    onward : Parting n d eps face vs whole v seen → v < length vs → seen′ ≡ pick (hasCorner face v) seen (seeOf n d eps (vertexOf vs v) seen)
+    onward : Parting n d eps face vs whole v seen → v < length vs
+        → seen′ ≡ pick (hasCorner face v) seen (seeOf n d eps (vertexOf vs v) seen)
         → seenAfter n d eps seen′ (otherVerticesFrom face (v + 1) (drop (v + 1) vs)) ≡ whole
     onward p h e = rw e (looked n d eps face vs v seen h) ∙ p .so
 
-    pub part-yes : Parting n d eps face vs whole v seen → v < length vs → seen′ ≡ pick (hasCorner face v) seen (seeOf n d eps (vertexOf vs v) seen)
+    pub part-yes : Parting n d eps face vs whole v seen → v < length vs
+        → seen′ ≡ pick (hasCorner face v) seen (seeOf n d eps (vertexOf vs v) seen)
         → seen′ .above && seen′ .below ≡ true → true ≡ whole
     part-yes p h e g = both-seen (seen′ .above) (seen′ .below) _ _ g ∙ onward p h e
 
-    pub part-no : Parting n d eps face vs whole v seen → v < length vs → seen′ ≡ pick (hasCorner face v) seen (seeOf n d eps (vertexOf vs v) seen)
+    pub part-no : Parting n d eps face vs whole v seen → v < length vs
+        → seen′ ≡ pick (hasCorner face v) seen (seeOf n d eps (vertexOf vs v) seen)
         → seen′ .above && seen′ .below ≡ false → Parting n d eps face vs whole (v + 1) seen′
     part-no p h e g = record { within = omega arith; yet = g; so = onward p h e }
 

@@ -1,4 +1,5 @@
--- Where nothing new is seen, a vertex may be a corner of the face or not.
+-- Where nothing new is seen it does not matter whether the vertex is a corner of the face: this is why `look` need not search the face
+-- there.
 use mathlib.Core.Path.{_≡_, refl, sym}
 use mathlib.Core.Bool.{Bool, true, false, true≢false, _&&_, Bool·beq}
 use Rattle.places.specs.Loops.{pick}

@@ -1,4 +1,5 @@
--- The loop that turns the faces of a cell, each in its own stretch of the corner list.
+-- The loop that turns the faces of a cell, each in its own stretch of the corner list, by its start, its next face and its end; it is that
+-- of `into_ccw`.
 use mathlib.Core.Path.{_≡_, refl, sym, _∙_}
 use mathlib.Core.Bool.{true, false}
 use mathlib.Core.List.{List, [], _++_, map, append-assoc, append-nil}
@@ -15,7 +16,8 @@ use Rattle.cell.specs.Refusals.{isEmpty, emptyRefused}
 use Rattle.cell.proofs.Faces.{Step, FaceAsking, faces-start, faces-step, faces-yes, faces-no, faces-more, part-is}
 use Rattle.cell.proofs.Refusals.{empty-yes, empty-no}
 
--- ---- a loop that turns faces by f: from face k on, which starts at p, the corners c come to `whole`. From p on they are still the first ones, c₀.
+-- ---- a loop that turns faces by f: from face k on, which starts at p, the corners c
+-- come to `whole`. From p on they are still the first ones, c₀.
 pub record Stretches (f : List ℕ → List ℕ) (c₀ es whole : List ℕ) (p k : ℕ) (c : List ℕ) : Type 0 where
   pub faces : FaceAsking isEmpty c₀ es false p k
   pub long : length c ≡ length c₀
@@ -23,7 +25,8 @@ pub record Stretches (f : List ℕ → List ℕ) (c₀ es whole : List ℕ) (p k
   pub so : take p c ++ joined (map f (facesFrom p c₀ (drop k es))) ≡ whole
 
 module _ {f : List ℕ → List ℕ} {c₀ es whole : List ℕ} where
-  pub stretch-start : T (rises 0 es (length c₀)) → emptyRefused c₀ es ≡ false → joined (map f (facesOf c₀ es)) ≡ whole → Stretches f c₀ es whole 0 0 c₀
+  pub stretch-start : T (rises 0 es (length c₀)) → emptyRefused c₀ es ≡ false → joined (map f (facesOf c₀ es)) ≡ whole
+      → Stretches f c₀ es whole 0 0 c₀
   unfolding emptyRefused facesOf
   stretch-start t n e = record { faces = faces-start t n; long = refl; ahead = refl; so = e }
 
@@ -44,7 +47,8 @@ module _ {f : List ℕ → List ℕ} {c₀ es whole : List ℕ} where
         rw (stretch-part, length-slice p e c₀ (stretch-step .upto)) (let s = stretch-step in let n : p ≡ e → ⊥ = apart in omega arith)
 
     -- the face is turned in its stretch, and the corners before and after it stay
-    pub stretch-next : {turned : List ℕ} → ((l : List ℕ) → length (f l) ≡ length l) → turned ≡ f (take (e - p) (drop p c)) → Stretches f c₀ es whole e (k + 1) (putMid p (e - p) c turned)
+    pub stretch-next : {turned : List ℕ} → ((l : List ℕ) → length (f l) ≡ length l) → turned ≡ f (take (e - p) (drop p c))
+        → Stretches f c₀ es whole e (k + 1) (putMid p (e - p) c turned)
     unfolding joined
     stretch-next {turned} keeps g =
         let s = stretch-step in

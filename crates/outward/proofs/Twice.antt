@@ -1,5 +1,5 @@
--- Turning twice is not turning once. A face that was reversed is measured from another corner, its last; where the normal or the centroid is rounded,
--- the two corners can lie on different sides, and then the face is reversed each time. Two cells, each computed.
+-- Turning twice is not turning once: a reversed face is measured from another corner, its last, and where the normal or the centroid is
+-- rounded the two corners can lie on different sides, so that the face is reversed each time. Two cells show it, each computed.
 use mathlib.Core.Path.{_≡_, refl, sym, _∙_}
 use mathlib.Core.Logic.{_≢_}
 use mathlib.Core.Bool.{false}
@@ -36,9 +36,11 @@ triangle = zero64 ∷ zero64 ∷ one64 ∷ zero64 ∷ one64 ∷ zero64 ∷ one64
 -- the face [0, 1, 2] becomes [2, 1, 0] and that [0, 1, 2]
 pub triangle-flips : Flips triangle (0 ∷ 1 ∷ 2 ∷ []) (2 ∷ 1 ∷ 0 ∷ []) (3 ∷ [])
 unfolding computed
-triangle-flips = record { accepted = refl; full = refl; differ = λ e. let z : _≡_ {A = ℕ} 0 2 = cc in omega arith; once = refl; again = refl }
+triangle-flips =
+    record { accepted = refl; full = refl; differ = λ e. let z : _≡_ {A = ℕ} 0 2 = cc in omega arith; once = refl; again = refl }
 
--- ---- a tetrahedron, closed and convex, with all faces outward, and small beside its distance from the origin: (0, 0, 1), (u, 0, 1), (0, u, 1), (0, 0, 1 + u)
+-- ---- a tetrahedron, closed and convex, with all faces outward, and small beside its distance
+-- from the origin: (0, 0, 1), (u, 0, 1), (0, u, 1), (0, 0, 1 + u)
 -- 2 ^ −52
 abbrev pub u : Float
 u = ofBits binary64 0x3cb0_0000_0000_0000
@@ -48,6 +50,8 @@ tetrahedron = zero64 ∷ zero64 ∷ one64 ∷ u ∷ zero64 ∷ one64 ∷ zero64 
 
 -- of the faces [0, 2, 1], [0, 1, 3], [1, 2, 3], [2, 0, 3] the third becomes [3, 2, 1], which looks inward, and that [1, 2, 3]
 pub tetrahedron-flips :
-    Flips tetrahedron (0 ∷ 2 ∷ 1 ∷ 0 ∷ 1 ∷ 3 ∷ 1 ∷ 2 ∷ 3 ∷ 2 ∷ 0 ∷ 3 ∷ []) (0 ∷ 2 ∷ 1 ∷ 0 ∷ 1 ∷ 3 ∷ 3 ∷ 2 ∷ 1 ∷ 2 ∷ 0 ∷ 3 ∷ []) (3 ∷ 6 ∷ 9 ∷ 12 ∷ [])
+    Flips tetrahedron (0 ∷ 2 ∷ 1 ∷ 0 ∷ 1 ∷ 3 ∷ 1 ∷ 2 ∷ 3 ∷ 2 ∷ 0 ∷ 3 ∷ [])
+    (0 ∷ 2 ∷ 1 ∷ 0 ∷ 1 ∷ 3 ∷ 3 ∷ 2 ∷ 1 ∷ 2 ∷ 0 ∷ 3 ∷ []) (3 ∷ 6 ∷ 9 ∷ 12 ∷ [])
 unfolding computed
-tetrahedron-flips = record { accepted = refl; full = refl; differ = λ e. let z : _≡_ {A = ℕ} 1 3 = cc in omega arith; once = refl; again = refl }
+tetrahedron-flips =
+    record { accepted = refl; full = refl; differ = λ e. let z : _≡_ {A = ℕ} 1 3 = cc in omega arith; once = refl; again = refl }

@@ -1,4 +1,5 @@
--- compute_convexity: whether each face of a cell has all other vertices on one side. Every step is one operation of f64, in the order that the Rust has.
+-- compute_convexity: whether each face of a cell has all other vertices on one side. Every
+-- step is one operation of f64, in the order that the Rust has.
 use Prim.Native.Nat.{ℕ, _+_}
 use mathlib.Core.Bool.{Bool, not, _&&_, _||_}
 use mathlib.Core.List.{List, [], _∷_}

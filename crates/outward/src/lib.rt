@@ -3,6 +3,7 @@ ghost use mathlib.Core.Path.{_≡_};
 ghost use mathlib.Core.Bool.{Bool, false, _&&_};
 ghost use Prim.Native.Nat.{ℕ, _<_};
 ghost use lib.ListN.{length};
+ghost use Rattle.places.specs.Lent.{old, new};
 ghost use Rattle.places.specs.Loops.{pick, anyOf};
 ghost use Rattle.flat.specs.Points.{verticesOf, vertexOf};
 ghost use Rattle.flat.specs.Steps.{Inside};
@@ -31,7 +32,7 @@ fn tolerance(n: [f64; 3]) -> f64
 
 // Whether a vertex is among the corners of a face.
 fn has_corner(face: &[u32], v: usize) -> bool
-    ensures { λ r. ⌜ r ≡ hasCorner (now (face .entry)) v ⌝ }
+    ensures { λ r. ⌜ r ≡ hasCorner (old face) v ⌝ }
 {
     let n = face.len();
     let mut i = 0;
@@ -78,7 +79,7 @@ fn same(a: Seen, b: Seen) -> bool
 // The same for the vertex v; a corner of the face is passed over. The face is searched only where something new was seen, which is seldom.
 fn look(coords: &[f64], face: &[u32], v: usize, n: [f64; 3], d: f64, eps: f64, seen: Seen) -> Seen
     requires { ⌜ v < length (verticesOf (now coords)) ⌝ }
-    ensures { λ r. ⌜ r ≡ pick (hasCorner (now (face .entry)) v) seen (seeOf n d eps (vertexOf (verticesOf (now (coords .entry))) v) seen) ⌝ }
+    ensures { λ r. ⌜ r ≡ pick (hasCorner (old face) v) seen (seeOf n d eps (vertexOf (verticesOf (old coords)) v) seen) ⌝ }
 {
     let next = see(n, d, eps, flat::space::vertex(coords, v), seen);
     if same(next, seen) {
@@ -99,7 +100,7 @@ fn both(seen: Seen) -> bool
 
 // Whether a plane parts the vertices that are no corners of the face. The loop ends as soon as one of each side was seen.
 fn plane_parts(coords: &[f64], face: &[u32], n: [f64; 3], d: f64, eps: f64) -> bool
-    ensures { λ r. ⌜ r ≡ planeParts n d eps (otherVertices (verticesOf (now (coords .entry))) (now (face .entry))) ⌝ }
+    ensures { λ r. ⌜ r ≡ planeParts n d eps (otherVertices (verticesOf (old coords)) (old face)) ⌝ }
 {
     let count = coords.len() / 3;
     let mut seen = Seen {
@@ -120,7 +121,7 @@ fn plane_parts(coords: &[f64], face: &[u32], n: [f64; 3], d: f64, eps: f64) -> b
 // Whether a face of 3 or more corners has other vertices on both sides.
 fn face_parts(coords: &[f64], face: &[u32]) -> bool
     requires { ⌜ Inside (verticesOf (now coords)) (now face) ⌝ }
-    ensures { λ r. ⌜ r ≡ faceParts (verticesOf (now (coords .entry))) (now (face .entry)) ⌝ }
+    ensures { λ r. ⌜ r ≡ faceParts (verticesOf (old coords)) (old face) ⌝ }
 {
     if face.len() < 3 {
         return false;
@@ -133,7 +134,7 @@ fn face_parts(coords: &[f64], face: &[u32]) -> bool
 // Whether a face of the cell does.
 fn any_parts(coords: &[f64], corners: &[u32], ends: &[u32]) -> bool
     requires { ⌜ Sound (now coords) (now corners) (now ends) ⌝ }
-    ensures { λ r. ⌜ r ≡ anyOf (faceParts (verticesOf (now (coords .entry)))) (facesOf (now (corners .entry)) (now (ends .entry))) ⌝ }
+    ensures { λ r. ⌜ r ≡ anyOf (faceParts (verticesOf (old coords))) (facesOf (old corners) (old ends)) ⌝ }
 {
     let n = ends.len();
     let mut start = 0;
@@ -151,10 +152,11 @@ fn any_parts(coords: &[f64], corners: &[u32], ends: &[u32]) -> bool
 }
 
 // Whether each face has all other vertices on one side; a cell of under 4 vertices is convex.
-// Ruled out: a face's own corners counted, which a face that is not flat has on both sides; a vertex right at the tolerance taken for one off the plane.
+// Ruled out: a face's own corners counted, which a face that is not flat has on both sides;
+// a vertex right at the tolerance taken for one off the plane.
 pub fn compute_convexity(coords: &[f64], corners: &[u32], ends: &[u32]) -> bool
     requires { ⌜ Sound (now coords) (now corners) (now ends) ⌝ }
-    ensures { λ r. ⌜ r ≡ computeConvexityOf (verticesOf (now (coords .entry))) (facesOf (now (corners .entry)) (now (ends .entry))) ⌝ }
+    ensures { λ r. ⌜ r ≡ computeConvexityOf (verticesOf (old coords)) (facesOf (old corners) (old ends)) ⌝ }
 {
     if coords.len() / 3 < 4 {
         return true;
@@ -166,7 +168,7 @@ pub fn compute_convexity(coords: &[f64], corners: &[u32], ends: &[u32]) -> bool
 fn away(coords: &[f64], face: &[u32], reference: [f64; 3]) -> f64
     requires { ⌜ Inside (verticesOf (now coords)) (now face) ⌝ }
     requires { ⌜ 0 < length (now face) ⌝ }
-    ensures { λ r. ⌜ r ≡ awayOf (verticesOf (now (coords .entry))) reference (now (face .entry)) ⌝ }
+    ensures { λ r. ⌜ r ≡ awayOf (verticesOf (old coords)) reference (old face) ⌝ }
 {
     let n = flat::space::face_normal(coords, face);
     let p = flat::space::vertex_at(coords, face, 0);
@@ -177,7 +179,7 @@ fn away(coords: &[f64], face: &[u32], reference: [f64; 3]) -> f64
 fn face_outward(coords: &[f64], face: &mut [u32], reference: [f64; 3])
     requires { ⌜ Inside (verticesOf (now coords)) (now face) ⌝ }
     requires { ⌜ 0 < length (now face) ⌝ }
-    ensures { λ _. ⌜ now (face .exit) ≡ outwardOf (verticesOf (now (coords .entry))) reference (now (face .entry)) ⌝ }
+    ensures { λ _. ⌜ new face ≡ outwardOf (verticesOf (old coords)) reference (old face) ⌝ }
 {
     if away(coords, face, reference) < 0.0 {
         places::reverse_corners(face);
@@ -185,11 +187,12 @@ fn face_outward(coords: &[f64], face: &mut [u32], reference: [f64; 3])
 }
 
 // The faces of a cell turned outward, each in its own stretch of the corner list.
-// Ruled out: turning the faces whose normal looks away from the centroid; reversing the whole corner list, which lays each face in another's stretch.
+// Ruled out: turning the faces whose normal looks away from the centroid; reversing the
+// whole corner list, which lays each face in another's stretch.
 pub fn into_ccw(coords: &[f64], corners: &mut [u32], ends: &[u32])
     requires { ⌜ Sound (now coords) (now corners) (now ends) ⌝ }
     requires { ⌜ emptyRefused (now corners) (now ends) ≡ false ⌝ }
-    ensures { λ _. ⌜ now (corners .exit) ≡ outwardCorners (verticesOf (now (coords .entry))) (facesOf (now (corners .entry)) (now (ends .entry))) ⌝ }
+    ensures { λ _. ⌜ new corners ≡ outwardCorners (verticesOf (old coords)) (facesOf (old corners) (old ends)) ⌝ }
 {
     let reference = flat::space::vertex_centroid(coords);
     let n = ends.len();

@@ -1,6 +1,6 @@
 -- A contribution worked out: the top of the unit cube about its corner (0,0,0) is a third of the cube.
 use mathlib.Core.Path.{_≡_, refl}
-use mathlib.Core.List.{[], _∷_}
+use mathlib.Core.List.{List, [], _∷_}
 use lib.Ieee.{Float, binary64, ofBits, add, sub, mul, div}
 use Rattle.places.specs.Ring.{foldPairs}
 use Rattle.floats.specs.F64.{zero64, one64}
@@ -16,6 +16,12 @@ point x y z = x ∷ y ∷ z ∷ []
 abbrev third : Float
 third = ofBits binary64 0x3fd5_5555_5555_5555
 
-top-of-cube : contributionOf (point zero64 zero64 zero64) (point zero64 zero64 one64 ∷ point one64 zero64 one64 ∷ point one64 one64 one64 ∷ point zero64 one64 one64 ∷ []) ≡ third
+-- its four corners, in their order
+abbrev top : List Point
+top =
+    point zero64 zero64 one64 ∷ point one64 zero64 one64
+    ∷ point one64 one64 one64 ∷ point zero64 one64 one64 ∷ []
+
+top-of-cube : contributionOf (point zero64 zero64 zero64) top ≡ third
 unfolding contributionOf addFan foldPairs tripleOf minusOf ofBits add sub mul div
 top-of-cube = refl

@@ -1,4 +1,5 @@
--- The loop of contribution: a fan of triangles from the first point of an outline, in which each point is taken from the reference once.
+-- The loop of `contribution`: a fan of triangles from the first point of an outline, in which each point is taken from the reference once
+-- and is the next triangle's too.
 use mathlib.Core.Path.{_≡_, refl, sym, _∙_}
 use mathlib.Core.List.{List, [], _∷_}
 use Prim.Native.Nat.{ℕ, zero, suc, _+_, _-_, _<_, _≤_}
@@ -13,7 +14,8 @@ use Rattle.volume.specs.Volume.{tripleOf}
 use Rattle.overlap.specs.Overlap.{steps, addFan, contributionOf}
 
 -- the steps of a list from a place on
-steps-more : (l : List Point) (j : ℕ) (d : Point) → j + 1 < length l → steps (drop j l) ≡ (getD l j d, getD l (j + 1) d) ∷ steps (drop (j + 1) l)
+steps-more : (l : List Point) (j : ℕ) (d : Point) → j + 1 < length l
+    → steps (drop j l) ≡ (getD l j d, getD l (j + 1) d) ∷ steps (drop (j + 1) l)
 steps-more l j d h = rw (drop-more l j d (omega arith), drop-more l (j + 1) d h)
 
 steps-last : (l : List Point) (j : ℕ) → length l ≤ j + 1 → steps (drop j l) ≡ []

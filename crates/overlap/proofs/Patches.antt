@@ -1,4 +1,5 @@
--- A face clipped or skipped: from what the code's parts say to what is left of it.
+-- What is left of a face, for `first_patch` and `second_patch`: nothing where a plane of the other cell skips it, and else what clipping
+-- leaves. And that this is never an outline of 0 points.
 use mathlib.Core.Path.{_≡_, refl}
 use mathlib.Core.Bool.{Bool, true, false}
 use mathlib.Core.List.{List}
@@ -14,18 +15,15 @@ use Rattle.planes.specs.Planes.{inFours, planeOf}
 use Rattle.planes.proofs.Stored.{take-fours}
 use Rattle.work_lists.specs.declared.Left.{Left}
 use Rattle.work_lists.specs.declared.Left.the-variants.{Nothing}
-use Rattle.work_lists.specs.WorkLists.{nothing, shorterOf}
+use Rattle.work_lists.specs.WorkLists.{nothing}
 use Rattle.work_lists.specs.Steps.{Ended}
 use Rattle.clip.specs.Clip.{clipFaceOf}
 use Rattle.clip.proofs.Points.{LeftPoints, left-nothing, left-either, clip-points}
 use Rattle.overlap.specs.declared.Measures.{Measures}
 use Rattle.overlap.specs.Overlap.{coplanarSkip, otherPlanes, firstPatch, secondPatch, patchOf}
-use Rattle.overlap.specs.Steps.{Ready}
+use Rattle.overlap.specs.Steps.{Ready, roomOf}
 
--- how many points the shorter of two work lists holds: it goes by their lengths
-abbrev pub roomOf : List Float → List Float → ℕ
-roomOf first second = shorterOf (length (verticesOf first)) (length (verticesOf second))
-
+-- the room goes by the lengths of the two work lists
 pub same-room : (a b a₀ b₀ : List Float) → length a ≡ length a₀ → length b ≡ length b₀ → roomOf a b ≡ roomOf a₀ b₀
 same-room a b a₀ b₀ e f = rw (length-threes a, length-threes b, length-threes a₀, length-threes b₀, e, f)
 
@@ -37,7 +35,8 @@ clippers false plane tol planes = otherPlanes plane tol planes
 -- what is left of a face: nothing where it is skipped
 patch-is : (second : Bool) (room : ℕ) (m : Measures) (planes : List Plane) (ps : List Point)
     → patchOf second room m planes ps
-    ≡ pick (anyOf (coplanarSkip second (planeOf ps) (m .coplanar)) planes) nothing (clipFaceOf room (m .eps) (clippers second (planeOf ps) (m .coplanar) planes) ps)
+    ≡ pick (anyOf (coplanarSkip second (planeOf ps) (m .coplanar)) planes) nothing
+    (clipFaceOf room (m .eps) (clippers second (planeOf ps) (m .coplanar) planes) ps)
 unfolding firstPatch secondPatch
 patch-is true room m planes ps = refl
 patch-is false room m planes ps = refl
@@ -50,13 +49,18 @@ patch-points second room m planes ps h =
     let clipped = clip-points room (m .eps) (clippers second (planeOf ps) tol planes) ps h in
     rw (patch-is second room m planes ps) (left-either (anyOf (coplanarSkip second (planeOf ps) tol) planes) left-nothing clipped)
 
-module _ {vs : List Point} {face : List ℕ} {plane : Plane} {planes first second : List Float} {a b : List Point} {skipped : Bool} (other : Bool) (m : Measures)
+-- the same for a face that is ready, by whether it was found to be skipped
+module _ {vs : List Point} {face : List ℕ} {plane : Plane} {planes first second : List Float} {a b : List Point} {skipped : Bool}
+    (other : Bool) (m : Measures)
     (ready : Ready vs face plane planes first second)
     (asked : skipped ≡ anyOf (coplanarSkip other plane (m .coplanar)) (inFours planes)) where
   pub patch-skipped : skipped ≡ true → Ended (patchOf other (roomOf first second) m (inFours planes) (cornersOf vs face)) Nothing a b
-  patch-skipped e = rw (patch-is other (roomOf first second) m (inFours planes) (cornersOf vs face), ← (ready .own), ← asked, e) (record { answer = refl; stands = refl })
+  patch-skipped e =
+      rw (patch-is other (roomOf first second) m (inFours planes) (cornersOf vs face), ← (ready .own), ← asked, e)
+      (record { answer = refl; stands = refl })
 
-  pub patch-clipped : {r : Left} → skipped ≡ false → Ended (clipFaceOf (roomOf first second) (m .eps) (clippers other plane (m .coplanar) (inFours planes)) (cornersOf vs face)) r a b
+  pub patch-clipped : {r : Left} → skipped ≡ false
+      → Ended (clipFaceOf (roomOf first second) (m .eps) (clippers other plane (m .coplanar) (inFours planes)) (cornersOf vs face)) r a b
       → Ended (patchOf other (roomOf first second) m (inFours planes) (cornersOf vs face)) r a b
   patch-clipped e q = rw (patch-is other (roomOf first second) m (inFours planes) (cornersOf vs face), ← (ready .own), ← asked, e) q
 

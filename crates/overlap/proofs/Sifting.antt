@@ -1,4 +1,4 @@
--- The loop of `other_planes`: planes that are not a face's own, laid down at the front of a list.
+-- The loop of `other_planes`: what was laid down and what is still to be kept of the planes from place i on are together all that are kept.
 use mathlib.Core.Path.{_≡_, refl}
 use mathlib.Core.Bool.{true, false}
 use mathlib.Core.List.{List, [], _∷_}
@@ -23,16 +23,20 @@ module _ {plane : Plane} {tol : Float} {l before : List Plane} where
   sift-start = record { within = zero-le; few = zero-le; rest = rest-start }
 
 module _ {plane : Plane} {tol : Float} {l before out : List Plane} {i m : ℕ} where
-  pub sift-drop : {p : Plane} (d : Plane) → Sifting plane tol l before i m out → i < length l → p ≡ getD l i d → sameSide plane p tol ≡ true
-      → Sifting plane tol l before (i + 1) m out
+  -- the plane at place i is the face's own
+  pub sift-drop : {p : Plane} (d : Plane) → Sifting plane tol l before i m out → i < length l → p ≡ getD l i d
+      → sameSide plane p tol ≡ true → Sifting plane tol l before (i + 1) m out
   unfolding otherPlanes
-  sift-drop d s h q e = record { within = omega arith; few = omega (arith, s .few); rest = rw (drop-more l i d h, ← q, e) at (s .rest) }
+  sift-drop d s h q e =
+      record { within = omega arith; few = omega (arith, s .few); rest = rw (drop-more l i d h, ← q, e) at (s .rest) }
 
-  pub sift-keep : {p : Plane} {out′ : List Plane} (d : Plane) → Sifting plane tol l before i m out → i < length l → p ≡ getD l i d → sameSide plane p tol ≡ false
-      → out′ ≡ set out m p → Sifting plane tol l before (i + 1) (m + 1) out′
+  -- it is another, and is laid down
+  pub sift-keep : {p : Plane} {out′ : List Plane} (d : Plane) → Sifting plane tol l before i m out → i < length l → p ≡ getD l i d
+      → sameSide plane p tol ≡ false → out′ ≡ set out m p → Sifting plane tol l before (i + 1) (m + 1) out′
   unfolding otherPlanes
   sift-keep {p} {out′} d s h q e g =
-      let more : Rest (otherPlanes plane tol l) before m (p ∷ otherPlanes plane tol (drop (i + 1) l)) out = rw (drop-more l i d h, ← q, e) at (s .rest) in
+      let later = otherPlanes plane tol (drop (i + 1) l) in
+      let more : Rest (otherPlanes plane tol l) before m (p ∷ later) out = rw (drop-more l i d h, ← q, e) at (s .rest) in
       record { within = omega arith; few = omega (arith, s .few); rest = rest-more {xs = p ∷ []} more (filled-one refl g) }
 
   -- at the end they are read back, where the list holds so many

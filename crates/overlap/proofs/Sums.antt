@@ -1,7 +1,8 @@
--- The loop of add_faces: over the faces of a cell, with the plane of each beside it, the contribution of what is left of each is added.
+-- The loop of `add_faces`: the plane of each face stands beside it in a list, and what is left of the faces is taken into the sum, one
+-- after the other.
 use mathlib.Core.Path.{_≡_, refl, sym, ap, _∙_}
 use mathlib.Core.Bool.{Bool, true, false}
-use mathlib.Core.List.{List, [], _∷_, map}
+use mathlib.Core.List.{List, [], _∷_, _++_, map}
 use Prim.Native.Nat.{ℕ, _+_, _*_, _<_, _≤_, zero-le}
 use native.Mathlib.Omega.{arith}
 use lib.Dec.{T}
@@ -11,6 +12,7 @@ use lib.Ieee.{Float}
 use Rattle.places.specs.Loops.{pick}
 use Rattle.places.proofs.Loops.{drop-more}
 use Rattle.places.proofs.Lists.{each-slice}
+use Rattle.places.proofs.Stored.{threes-take}
 use Rattle.floats.specs.F64.{_+f_}
 use Rattle.flat.specs.Points.{Point, verticesOf, cornersOf}
 use Rattle.cell.specs.Faces.{facesFrom, facesOf, rises}
@@ -19,13 +21,12 @@ use Rattle.cell.proofs.Faces.{Step, faces-more, faces-none, rises-more}
 use Rattle.planes.specs.declared.Plane.{Plane}
 use Rattle.planes.specs.Steps.{noPlane}
 use Rattle.planes.proofs.Faces.{facePlane}
-use Rattle.places.proofs.Stored.{threes-take}
 use Rattle.work_lists.specs.declared.Left.the-variants.{Nothing, Outline, NoRoom}
-use Rattle.work_lists.specs.WorkLists.{Outcome, nothing, noRoom, outline, outlineOf, answerOf}
-use Rattle.work_lists.specs.Steps.{inSecond, Ended}
+use Rattle.work_lists.specs.declared.Sum.{Sum}
+use Rattle.work_lists.specs.WorkLists.{Outcome, nothing, noRoom, outline}
+use Rattle.work_lists.specs.Steps.{Ended}
 use Rattle.work_lists.proofs.Endings.{room-lacks}
 use Rattle.overlap.specs.declared.Measures.{Measures}
-use Rattle.work_lists.specs.declared.Sum.{Sum}
 use Rattle.overlap.specs.Overlap.{contributionOf, patchOf, addedTo}
 use Rattle.overlap.specs.Steps.{Ready}
 
@@ -45,21 +46,28 @@ module _ {A : Type 0} {g : List ℕ → A} {c es : List ℕ} {l : List A} where
   module _ {p k : ℕ} (b : Beside g c es l p k) (h : k < length es) where
     pub beside-room : k < length l
     beside-room =
-        let q : drop k l ≡ map g (slice p (getD es k 0) c ∷ facesFrom (getD es k 0) c (drop (k + 1) es)) = rw (faces-more p c es k h) at (b .so) in
+        let end = getD es k 0 in
+        let q : drop k l ≡ map g (slice p end c ∷ facesFrom end c (drop (k + 1) es)) = rw (faces-more p c es k h) at (b .so) in
         omega (arith, length-drop k l, ap length q)
 
-    both : {e : ℕ} (d : A) → e ≡ getD es k 0 → getD l k d ∷ drop (k + 1) l ≡ g (slice p e c) ∷ map g (facesFrom e c (drop (k + 1) es))
+    both : {e : ℕ} (d : A) → e ≡ getD es k 0
+        → getD l k d ∷ drop (k + 1) l ≡ g (slice p e c) ∷ map g (facesFrom e c (drop (k + 1) es))
     both {e} d q = rw (← drop-more l k d beside-room, q) (b .so ∙ rw (faces-more p c es k h))
 
     pub beside-at : {e : ℕ} (d : A) → e ≡ getD es k 0 → getD l k d ≡ g (slice p e c)
-    beside-at {e} d q = let r : getD l k d ∷ drop (k + 1) l ≡ g (slice p e c) ∷ map g (facesFrom e c (drop (k + 1) es)) = both d q in cc
+    beside-at {e} d q =
+        let r : getD l k d ∷ drop (k + 1) l ≡ g (slice p e c) ∷ map g (facesFrom e c (drop (k + 1) es)) = both d q in
+        cc
 
     pub beside-next : {e : ℕ} (d : A) → e ≡ getD es k 0 → Beside g c es l e (k + 1)
-    beside-next {e} d q = let r : getD l k d ∷ drop (k + 1) l ≡ g (slice p e c) ∷ map g (facesFrom e c (drop (k + 1) es)) = both d q in record { so = cc }
+    beside-next {e} d q =
+        let r : getD l k d ∷ drop (k + 1) l ≡ g (slice p e c) ∷ map g (facesFrom e c (drop (k + 1) es)) = both d q in
+        record { so = cc }
 
 -- the face k is ready to be clipped
 pub ready-at : {coords planes first second : List Float} {c es face : List ℕ} {own : List Plane} {plane : Plane} {p k e : ℕ}
-    → Sound coords c es → Beside (facePlane (verticesOf coords)) c es own p k → k < length es → e ≡ getD es k 0 → face ≡ slice p e c → plane ≡ getD own k noPlane
+    → Sound coords c es → Beside (facePlane (verticesOf coords)) c es own p k → k < length es → e ≡ getD es k 0
+    → face ≡ slice p e c → plane ≡ getD own k noPlane
     → length planes ≤ 1024 → length first ≤ 3072 → length second ≤ 3072 → Ready (verticesOf coords) face plane planes first second
 ready-at {coords} {c = c} {p = p} {e = e} sound b h q f w few s t =
     record {
@@ -71,25 +79,53 @@ ready-at {coords} {c = c} {p = p} {e = e} sound b h q f w few s t =
       short-second = t;
     }
 
--- ---- an outcome taken in
-module _ (ref : Point) (v : Float) (os : List Outcome) where
-  took-nothing : (o : Outcome) → Nothing ≡ answerOf o → addedTo ref v (o ∷ os) ≡ addedTo ref v os
-  unfolding addedTo
-  took-nothing nothing e = refl
-  took-nothing noRoom e = cc
-  took-nothing (outline s []) e = refl
-  took-nothing (outline s (p ∷ ps)) e = cc
+-- ---- one face taken into the sum v, as its answer says
+pub took-nothing : {o : Outcome} {a b : List Point} (ref : Point) (v : Float) → Ended o Nothing a b → Sum.Is v ≡ addedTo ref v (o ∷ [])
+unfolding addedTo
+took-nothing {o = nothing} ref v q = refl
+took-nothing {o = noRoom} ref v q = cc (q .answer)
+took-nothing {o = outline s []} ref v q = refl
+took-nothing {o = outline s (p ∷ ps)} ref v q = cc (q .answer)
 
-  took-outline : (o : Outcome) {n : ℕ} {s : Bool} (a b : List Point) → Outline n s ≡ answerOf o → take (length (outlineOf o)) (pick (inSecond o) b a) ≡ outlineOf o
-      → addedTo ref v (o ∷ os) ≡ addedTo ref (v +f contributionOf ref (take n (pick s b a))) os
-  unfolding addedTo
-  took-outline nothing a b e f = cc
-  took-outline noRoom a b e f = cc
-  took-outline (outline t []) a b e f = cc
-  took-outline (outline t (p ∷ ps)) {n} {s} a b e f =
-      let size : n ≡ length (p ∷ ps) = cc in
-      let side : s ≡ t = cc in
-      rw (size, side, f)
+took-outline : {o : Outcome} {n : ℕ} {s : Bool} {a b : List Point} (ref : Point) (v : Float) → Ended o (Outline n s) a b
+    → Sum.Is (v +f contributionOf ref (take n (pick s b a))) ≡ addedTo ref v (o ∷ [])
+unfolding addedTo
+took-outline {o = nothing} ref v q = cc (q .answer)
+took-outline {o = noRoom} ref v q = cc (q .answer)
+took-outline {o = outline t []} ref v q = cc (q .answer)
+took-outline {o = outline t (p ∷ ps)} {n} {s} ref v q =
+    let size : n ≡ length (p ∷ ps) = cc (q .answer) in
+    let side : s ≡ t = cc (q .answer) in
+    rw (size, side, q .stands)
+
+-- the points of the stretch that shows an outline
+shown-points : (n : ℕ) (s : Bool) (a b : List Float)
+    → verticesOf (take (n * 3) (pick s b a)) ≡ take n (pick s (verticesOf b) (verticesOf a))
+shown-points n true a b = threes-take n b
+shown-points n false a b = threes-take n a
+
+pub took-shown : {o : Outcome} {n : ℕ} {s : Bool} {shown : List Float} {w : Float} (ref : Point) (v : Float) (a b : List Float)
+    → Ended o (Outline n s) (verticesOf a) (verticesOf b) → shown ≡ take (n * 3) (pick s b a) → w ≡ contributionOf ref (verticesOf shown)
+    → Sum.Is (v +f w) ≡ addedTo ref v (o ∷ [])
+took-shown {n = n} {s = s} ref v a b q f g = rw (g, f, shown-points n s a b) (took-outline ref v q)
+
+pub took-refusal : {o : Outcome} {a b : List Point} (ref : Point) (v : Float) → Ended o NoRoom a b → Sum.NoRoom ≡ addedTo ref v (o ∷ [])
+unfolding addedTo
+took-refusal ref v q = rw (room-lacks q)
+
+-- ---- outcomes taken in one after the other: the sum goes on from where the first ones came to
+abbrev pub onward : Sum → (Float → Sum) → Sum
+onward (Sum.Is v) next = next v
+onward Sum.NoRoom next = Sum.NoRoom
+
+pub added-append : (ref : Point) (v : Float) (xs ys : List Outcome)
+    → addedTo ref v (xs ++ ys) ≡ onward (addedTo ref v xs) (λ w. addedTo ref w ys)
+unfolding addedTo
+added-append ref v [] ys = refl
+added-append ref v (nothing ∷ xs) ys = added-append ref v xs ys
+added-append ref v (noRoom ∷ xs) ys = refl
+added-append ref v (outline s [] ∷ xs) ys = added-append ref v xs ys
+added-append ref v (outline s (p ∷ ps) ∷ xs) ys = added-append ref (v +f contributionOf ref (p ∷ ps)) xs ys
 
 -- what is left of the faces from face k on, with the previous end p
 abbrev pub outcomes : (List ℕ → Outcome) → List ℕ → List ℕ → ℕ → ℕ → List Outcome
@@ -101,33 +137,29 @@ pub record Adding (ref : Point) (f : List ℕ → Outcome) (c es : List ℕ) (wh
   pub ordered : T (rises p (drop k es) (length c))
   pub so : addedTo ref v (outcomes f c es p k) ≡ whole
 
-pub add-start : {ref : Point} {f : List ℕ → Outcome} {c es : List ℕ} {v : Float} → T (rises 0 es (length c)) → Adding ref f c es (addedTo ref v (map f (facesOf c es))) 0 0 v
+pub add-start : {ref : Point} {f : List ℕ → Outcome} {c es : List ℕ} {v : Float} → T (rises 0 es (length c))
+    → Adding ref f c es (addedTo ref v (map f (facesOf c es))) 0 0 v
 unfolding facesOf
 add-start t = record { within = zero-le; ordered = t; so = refl }
 
-module _ {ref : Point} {f : List ℕ → Outcome} {c es : List ℕ} {whole : Sum} {p k e : ℕ} {v : Float} (l : Adding ref f c es whole p k v) (h : k < length es) (q : e ≡ getD es k 0) where
+module _ {ref : Point} {f : List ℕ → Outcome} {c es : List ℕ} {whole : Sum} {p k e : ℕ} {v : Float}
+    (l : Adding ref f c es whole p k v) (h : k < length es) (q : e ≡ getD es k 0) where
   pub add-step : Step p es (length c) k e
   add-step = rises-more p es (length c) k e h q (l .ordered)
 
-  next : addedTo ref v (f (slice p e c) ∷ outcomes f c es e (k + 1)) ≡ whole
-  next = rw q (sym (rw (faces-more p c es k h)) ∙ l .so)
+  -- the face k is taken in, and r is where the sum came to
+  goes-on : {r : Sum} → r ≡ addedTo ref v (f (slice p e c) ∷ []) → onward r (λ w. addedTo ref w (outcomes f c es e (k + 1))) ≡ whole
+  goes-on g =
+      let next : addedTo ref v (f (slice p e c) ∷ outcomes f c es e (k + 1)) ≡ whole = rw q (sym (rw (faces-more p c es k h)) ∙ l .so) in
+      rw g (sym (added-append ref v (f (slice p e c) ∷ []) (outcomes f c es e (k + 1))) ∙ next)
 
-  pub add-nothing : {a b : List Point} → Ended (f (slice p e c)) Nothing a b → Adding ref f c es whole e (k + 1) v
-  add-nothing o = record { within = omega arith; ordered = add-step .rest; so = sym (took-nothing ref v (outcomes f c es e (k + 1)) (f (slice p e c)) (o .answer)) ∙ next }
+  pub add-more : {r : Sum} {w : Float} → r ≡ addedTo ref v (f (slice p e c) ∷ []) → r ≡ Sum.Is w → Adding ref f c es whole e (k + 1) w
+  add-more g is = record { within = omega arith; ordered = add-step .rest; so = rw is at (goes-on g) }
 
-  pub add-outline : {n : ℕ} {s : Bool} {a b : List Point} {w : Float} → Ended (f (slice p e c)) (Outline n s) a b → w ≡ v +f contributionOf ref (take n (pick s b a))
-      → Adding ref f c es whole e (k + 1) w
-  add-outline {a = a} {b = b} o g = record { within = omega arith; ordered = add-step .rest; so = rw g (sym (took-outline ref v (outcomes f c es e (k + 1)) (f (slice p e c)) a b (o .answer) (o .stands)) ∙ next) }
+  pub add-refused : {r : Sum} → r ≡ addedTo ref v (f (slice p e c) ∷ []) → r ≡ Sum.NoRoom → Sum.NoRoom ≡ whole
+  add-refused g is = rw is at (goes-on g)
 
-  pub add-refused : {a b : List Point} → Ended (f (slice p e c)) NoRoom a b → Sum.NoRoom ≡ whole
-  unfolding addedTo
-  add-refused o = rw (room-lacks o) at next
-
-pub add-end : {ref : Point} {f : List ℕ → Outcome} {c es : List ℕ} {whole : Sum} {p k : ℕ} {v : Float} → Adding ref f c es whole p k v → length es ≤ k → Sum.Is v ≡ whole
+pub add-end : {ref : Point} {f : List ℕ → Outcome} {c es : List ℕ} {whole : Sum} {p k : ℕ} {v : Float}
+    → Adding ref f c es whole p k v → length es ≤ k → Sum.Is v ≡ whole
 unfolding addedTo
 add-end {c = c} {es = es} {p = p} {k = k} l h = sym (rw (faces-none p c es k h)) ∙ l .so
-
--- the points of the stretch that shows an outline
-pub shown-points : (n : ℕ) (s : Bool) (a b : List Float) → verticesOf (take (n * 3) (pick s b a)) ≡ take n (pick s (verticesOf b) (verticesOf a))
-shown-points n true a b = threes-take n b
-shown-points n false a b = threes-take n a

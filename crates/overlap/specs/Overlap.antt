@@ -34,8 +34,8 @@ contributionOf ref [] = zero64 /f six64
 contributionOf ref (p ∷ ps) = foldPairs (addFan ref p) (steps ps) zero64 /f six64
 
 -- ---- the faces
--- the plane p of the other cell keeps a face in this plane from being counted: a face of the second cell (true) where p is its plane, from either side,
--- and one of the first (false) where p is its plane from the other side
+-- the plane p of the other cell keeps a face in this plane from being counted: a face of the second cell (true) where p is its plane,
+-- from either side, and one of the first (false) where p is its plane from the other side
 abbrev pub coplanarSkip : Bool → Plane → Float → Plane → Bool
 coplanarSkip true plane tol p = coplanarOpposite p plane tol || sameSide p plane tol
 coplanarSkip false plane tol p = coplanarOpposite plane p tol
@@ -47,14 +47,16 @@ otherPlanes plane tol (p ∷ ps) =
     let rest = otherPlanes plane tol ps in
     pick (sameSide plane p tol) rest (p ∷ rest)
 
--- a face of the first cell: none of it counts where it lies in a plane of the second from the other side; else it is clipped by the planes of the second that are not its own
+-- a face of the first cell: none of it counts where it lies in a plane of the second from the other side; else it is clipped by the
+-- planes of the second that are not its own
 unfoldable pub firstPatch : ℕ → Measures → List Plane → List Point → Outcome
 firstPatch room m planes ps =
     let plane = planeOf ps in
     let left = clipFaceOf room (m .eps) (otherPlanes plane (m .coplanar) planes) ps in
     pick (anyOf (coplanarSkip false plane (m .coplanar)) planes) nothing left
 
--- a face of the second cell: none of it counts where it lies in a plane of the first, from either side; else it is clipped by all planes of the first
+-- a face of the second cell: none of it counts where it lies in a plane of the first, from either side; else it is clipped by all
+-- planes of the first
 unfoldable pub secondPatch : ℕ → Measures → List Plane → List Point → Outcome
 secondPatch room m planes ps =
     let plane = planeOf ps in
@@ -89,7 +91,9 @@ magnitudeOfSum Sum.NoRoom = Sum.NoRoom
 unfoldable pub overlapOf : ℕ → List Point → List (List ℕ) → List Point → List (List ℕ) → Sum
 overlapOf room vs faces ws otherFaces =
     let m = measuresOf vs ws in
-    magnitudeOfSum (addedTo (m .reference) zero64 (patchesOf false room m vs faces (planesOf ws otherFaces) ++ patchesOf true room m ws otherFaces (planesOf vs faces)))
+    let ofFirst = patchesOf false room m vs faces (planesOf ws otherFaces) in
+    let ofSecond = patchesOf true room m ws otherFaces (planesOf vs faces) in
+    magnitudeOfSum (addedTo (m .reference) zero64 (ofFirst ++ ofSecond))
 
 -- convex_intersection_volume: 0 where the boxes miss each other
 unfoldable pub intersectionOf : ℕ → List Point → List (List ℕ) → List Point → List (List ℕ) → Sum

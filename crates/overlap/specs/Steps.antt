@@ -1,25 +1,26 @@
 -- What functions below the gatehouse ask of and promise each other; no contract of a public entry speaks of these.
-use Prim.Native.Nat.{ℕ, _*_, _≤_}
+use Prim.Native.Nat.{ℕ, _+_, _-_, _≤_}
 use mathlib.Core.List.{List}
 use lib.Ieee.{Float}
 use Rattle.places.specs.Limits.{mostCorners, mostWorkNumbers}
 use Rattle.floats.specs.Pick.{largestOf}
-use Rattle.flat.specs.Points.{Point, cornersOf}
+use Rattle.flat.specs.Points.{Point, verticesOf, cornersOf}
 use Rattle.flat.specs.Steps.{Inside}
 use Rattle.clip_step.specs.Doubled.{squareOf}
 use mathlib.Core.Path.{_≡_}
-use mathlib.Core.Bool.{false}
-use lib.ListN.{length}
+use mathlib.Core.Bool.{Bool, true, false}
+use lib.ListN.{length, take, drop}
 use Rattle.cell.specs.Refusals.{emptyRefused}
 use Rattle.cell.specs.Steps.{Sound}
 use Rattle.planes.specs.declared.Plane.{Plane}
-use Rattle.planes.specs.Planes.{planeOf}
+use Rattle.planes.specs.Planes.{planeOf, inFours}
+use Rattle.work_lists.specs.WorkLists.{shorterOf}
 
 -- the larger of m and the sum of the squares of what p and c differ by
 unfoldable pub fartherSquare : Point → Point → Float → Float
 fartherSquare c p m = largestOf m (squareOf p c)
 
--- ---- what the overlap wants: of a cell, of a face that is to be clipped, and of its scratch lists
+-- ---- what the overlap wants: of a cell, of a face that is to be clipped, and of its lists
 -- a cell that is not refused 1 to 5
 pub record Solid (coords : List Float) (corners ends : List ℕ) : Type 0 where
   pub sound : Sound coords corners ends
@@ -34,9 +35,30 @@ pub record Ready (vs : List Point) (face : List ℕ) (plane : Plane) (planes fir
   pub short-first : length first ≤ mostWorkNumbers
   pub short-second : length second ≤ mostWorkNumbers
 
--- scratch lists of just so many numbers as the planes of each cell have, and one that holds those of either
-pub record Scratch (ends ends2 : List ℕ) (own planes kept : List Float) : Type 0 where
-  pub own-size : length own ≡ 4 * length ends
-  pub planes-size : length planes ≡ 4 * length ends2
-  pub own-fits : length own ≤ length kept
-  pub planes-fit : length planes ≤ length kept
+-- how many points the shorter of two work lists holds
+abbrev pub roomOf : List Float → List Float → ℕ
+roomOf first second = shorterOf (length (verticesOf first)) (length (verticesOf second))
+
+-- ---- the planes of both cells in one list, those of the first before those of the second
+-- the n numbers of the first cell's planes (false), or of the second's (true)
+abbrev pub ownPart : Bool → ℕ → List Float → List Float
+ownPart true n both = drop (length both - n) both
+ownPart false n both = take n both
+
+-- and those of the other cell's
+abbrev pub otherPart : Bool → ℕ → List Float → List Float
+otherPart true n both = take (length both - n) both
+otherPart false n both = drop n both
+
+-- the list has n numbers of the first cell's planes and then k of the second's
+pub record Joint (n k : ℕ) (firsts seconds : List Plane) (both : List Float) : Type 0 where
+  pub size : length both ≡ n + k
+  pub of-first : inFours (take n both) ≡ firsts
+  pub of-second : inFours (drop n both) ≡ seconds
+
+-- n numbers of such a list are these planes of a cell, and the list `kept` has room for those of the other
+pub record Stocked (second : Bool) (n : ℕ) (own : List Plane) (both kept : List Float) : Type 0 where
+  pub fits : n ≤ length both
+  pub own-planes : inFours (ownPart second n both) ≡ own
+  pub few-others : length (otherPart second n both) ≤ 1024
+  pub room : length (otherPart second n both) ≤ length kept

@@ -31,8 +31,8 @@ radialOf ps = foldList (farther (centroidOf 3 ps)) ps zero64
 abbrev pub warp : Float
 warp = ofBits binary64 0x3f1a_36e2_eb1c_432d
 
--- of the first cell's vertices and the second's: the clip's eps is 64 · EPSILON times the first's scale, the coplanar tolerance 1e-4 times the radial length of both,
--- and contributions are taken about the first's vertex centroid
+-- of the first cell's vertices and the second's: the clip's eps is 64 · EPSILON times the first's scale, the coplanar tolerance 1e-4
+-- times the radial length of both, and contributions are taken about the first's vertex centroid
 unfoldable pub measuresOf : List Point → List Point → Measures
 measuresOf vs ws =
     record {

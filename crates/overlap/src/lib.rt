@@ -6,8 +6,10 @@ use work_lists::Sum;
 pub mod tolerances;
 
 ghost use mathlib.Core.Path.{_≡_};
-ghost use Prim.Native.Nat.{_*_, _≤_};
+ghost use mathlib.Core.List.{[], _∷_};
+ghost use Prim.Native.Nat.{_+_, _*_, _≤_};
 ghost use lib.ListN.{length, take, replicate};
+ghost use Rattle.places.specs.Lent.{old, new};
 ghost use Rattle.places.specs.Limits.{mostWorkNumbers};
 ghost use Rattle.places.specs.Loops.{anyOf};
 ghost use Rattle.floats.specs.F64.{zero64};
@@ -17,8 +19,9 @@ ghost use Rattle.cell.specs.Steps.{Sound};
 ghost use Rattle.planes.specs.Planes.{planesOf, inFours};
 ghost use Rattle.work_lists.specs.WorkLists.{shorterOf};
 ghost use Rattle.work_lists.specs.Steps.{Ended};
-ghost use Rattle.overlap.specs.Overlap.{contributionOf, coplanarSkip, otherPlanes, firstPatch, secondPatch, patchOf, patchesOf, addedTo, magnitudeOfSum, overlapOf, intersectionOf};
-ghost use Rattle.overlap.specs.Steps.{Ready, Scratch, Solid};
+ghost use Rattle.overlap.specs.Overlap.{contributionOf, coplanarSkip, otherPlanes, firstPatch, secondPatch, patchOf};
+ghost use Rattle.overlap.specs.Overlap.{patchesOf, addedTo, magnitudeOfSum, overlapOf, intersectionOf};
+ghost use Rattle.overlap.specs.Steps.{Solid, Ready, Joint, Stocked, roomOf, ownPart, otherPart};
 
 // The clip's eps, the coplanar tolerance, and the point about which contributions are taken.
 pub struct Measures {
@@ -27,7 +30,15 @@ pub struct Measures {
     pub reference: [f64; 3],
 }
 
-// The contribution of an outline: the triangles from its first point to each of its other sides, over 6. Each point is taken from the reference once.
+// Whose faces are added, those of the first cell or of the other, by which measures, and their sum so far.
+struct Tally {
+    other: bool,
+    m: Measures,
+    sum: f64,
+}
+
+// The contribution of an outline: the triangles from its first point to each of its other sides, over 6.
+// Each point is taken from the reference once.
 // Ruled out: triangles about the origin; one triangle too few.
 fn contribution(s: &[f64], reference: [f64; 3]) -> f64
     ensures { λ r. ⌜ r ≡ contributionOf reference (verticesOf (now (s .entry))) ⌝ }
@@ -111,7 +122,8 @@ fn first_patch(
 ) -> Left
     requires { ⌜ Ready (verticesOf (now coords)) (now face) plane (now planes) (now first) (now second) ⌝ }
     requires { ⌜ length (now planes) ≤ length (now kept) ⌝ }
-    ensures { λ r. ⌜ Ended (firstPatch (shorterOf (length (verticesOf (now (first .entry)))) (length (verticesOf (now (second .entry))))) m (inFours (now (planes .entry))) (cornersOf (verticesOf (now (coords .entry))) (now (face .entry)))) r (verticesOf (now (first .exit))) (verticesOf (now (second .exit))) ⌝ }
+    ensures { λ r. ⌜ Ended (firstPatch (roomOf (old first) (old second)) m (inFours (old planes))
+        (cornersOf (verticesOf (old coords)) (old face))) r (verticesOf (new first)) (verticesOf (new second)) ⌝ }
 {
     if any_coplanar_skip(false, plane, planes, m.coplanar) {
         return Left::Nothing;
@@ -131,7 +143,8 @@ fn second_patch(
     second: &mut [f64],
 ) -> Left
     requires { ⌜ Ready (verticesOf (now coords)) (now face) plane (now planes) (now first) (now second) ⌝ }
-    ensures { λ r. ⌜ Ended (secondPatch (shorterOf (length (verticesOf (now (first .entry)))) (length (verticesOf (now (second .entry))))) m (inFours (now (planes .entry))) (cornersOf (verticesOf (now (coords .entry))) (now (face .entry)))) r (verticesOf (now (first .exit))) (verticesOf (now (second .exit))) ⌝ }
+    ensures { λ r. ⌜ Ended (secondPatch (roomOf (old first) (old second)) m (inFours (old planes))
+        (cornersOf (verticesOf (old coords)) (old face))) r (verticesOf (new first)) (verticesOf (new second)) ⌝ }
 {
     if any_coplanar_skip(true, plane, planes, m.coplanar) {
         return Left::Nothing;
@@ -141,48 +154,107 @@ fn second_patch(
 
 // What is left of a face of the first cell or of the second.
 fn patch(
-    other: bool,
+    t: Tally,
     coords: &[f64],
     face: &[u32],
     plane: Plane,
     planes: &[f64],
     kept: &mut [f64],
-    m: Measures,
     first: &mut [f64],
     second: &mut [f64],
 ) -> Left
     requires { ⌜ Ready (verticesOf (now coords)) (now face) plane (now planes) (now first) (now second) ⌝ }
     requires { ⌜ length (now planes) ≤ length (now kept) ⌝ }
-    ensures { λ r. ⌜ Ended (patchOf other (shorterOf (length (verticesOf (now (first .entry)))) (length (verticesOf (now (second .entry))))) m (inFours (now (planes .entry))) (cornersOf (verticesOf (now (coords .entry))) (now (face .entry)))) r (verticesOf (now (first .exit))) (verticesOf (now (second .exit))) ⌝ }
+    ensures { λ r. ⌜ Ended (patchOf (t .other) (roomOf (old first) (old second)) (t .m) (inFours (old planes))
+        (cornersOf (verticesOf (old coords)) (old face))) r (verticesOf (new first)) (verticesOf (new second)) ⌝ }
 {
+    let m = t.m;
+    let other = t.other;
     if other {
         return second_patch(coords, face, plane, planes, m, first, second);
     }
     first_patch(coords, face, plane, planes, kept, m, first, second)
 }
 
-// The contributions of a cell's faces, added to the sum v: `own` are its planes, `planes` the other cell's.
+// The sum with the contribution of what is left of one face.
+fn add_face(
+    t: Tally,
+    coords: &[f64],
+    face: &[u32],
+    plane: Plane,
+    planes: &[f64],
+    kept: &mut [f64],
+    first: &mut [f64],
+    second: &mut [f64],
+) -> Sum
+    requires { ⌜ Ready (verticesOf (now coords)) (now face) plane (now planes) (now first) (now second) ⌝ }
+    requires { ⌜ length (now planes) ≤ length (now kept) ⌝ }
+    ensures { λ r. ⌜ r ≡ addedTo (t .m .reference) (t .sum) (patchOf (t .other) (roomOf (old first) (old second)) (t .m)
+        (inFours (old planes)) (cornersOf (verticesOf (old coords)) (old face)) ∷ []) ⌝ }
+{
+    let sum = t.sum;
+    let m = t.m;
+    let reference = m.reference;
+    match patch(t, coords, face, plane, planes, kept, first, second) {
+        Left::Nothing => Sum::Is(sum),
+        Left::Outline(n, in_second) => {
+            let shown = work_lists::shown(first, second, n * 3, in_second);
+            Sum::Is(sum + contribution(shown, reference))
+        }
+        Left::NoRoom => Sum::NoRoom,
+    }
+}
+
+// The planes of both cells stand in one list, those of the first before those of the second.
+// Of these the n numbers of the first cell's planes, or of the other's.
+fn own_part(both: &[f64], n: usize, other: bool) -> &[f64]
+    requires { ⌜ n ≤ length (now both) ⌝ }
+    ensures { λ r. ⌜ now r ≡ ownPart other n (old both) ⌝ }
+{
+    if other {
+        let from = both.len() - n;
+        return &both[from..];
+    }
+    &both[0..n]
+}
+
+// And the numbers of the planes by which that cell's faces are clipped.
+fn other_part(both: &[f64], n: usize, other: bool) -> &[f64]
+    requires { ⌜ n ≤ length (now both) ⌝ }
+    ensures { λ r. ⌜ now r ≡ otherPart other n (old both) ⌝ }
+{
+    if other {
+        let end = both.len() - n;
+        return &both[0..end];
+    }
+    &both[n..]
+}
+
+// The contributions of a cell's faces, added to the sum of the tally in the order of the faces.
 fn add_faces(
-    other: bool,
+    t: Tally,
     coords: &[f64],
     corners: &[u32],
     ends: &[u32],
-    own: &[f64],
-    planes: &[f64],
+    both: &[f64],
     kept: &mut [f64],
-    m: Measures,
-    v: f64,
     first: &mut [f64],
     second: &mut [f64],
 ) -> Sum
     requires { ⌜ Sound (now coords) (now corners) (now ends) ⌝ }
-    requires { ⌜ inFours (now own) ≡ planesOf (verticesOf (now coords)) (facesOf (now corners) (now ends)) ⌝ }
-    requires { ⌜ (length (now planes) ≤ 1024) × (length (now planes) ≤ length (now kept)) ⌝ }
+    requires { ⌜ Stocked (t .other) (length (now ends) * 4) (planesOf (verticesOf (now coords)) (facesOf (now corners) (now ends)))
+        (now both) (now kept) ⌝ }
     requires { ⌜ (length (now first) ≤ mostWorkNumbers) × (length (now second) ≤ mostWorkNumbers) ⌝ }
-    ensures { λ r. ⌜ r ≡ addedTo (m .reference) v (patchesOf other (shorterOf (length (verticesOf (now (first .entry)))) (length (verticesOf (now (second .entry))))) m (verticesOf (now (coords .entry))) (facesOf (now (corners .entry)) (now (ends .entry))) (inFours (now (planes .entry)))) ⌝ }
+    ensures { λ r. ⌜ r ≡ addedTo (t .m .reference) (t .sum) (patchesOf (t .other) (roomOf (old first) (old second)) (t .m)
+        (verticesOf (old coords)) (facesOf (old corners) (old ends))
+        (inFours (otherPart (t .other) (length (old ends) * 4) (old both)))) ⌝ }
 {
-    let reference = m.reference;
-    let mut sum = v;
+    let other = t.other;
+    let m = t.m;
+    let n = ends.len() * 4;
+    let own = own_part(both, n, other);
+    let planes = other_part(both, n, other);
+    let mut sum = t.sum;
     let mut start = 0;
     let mut k = 0;
     while k < ends.len() {
@@ -191,13 +263,10 @@ fn add_faces(
         let plane = planes::plane_at(own, k);
         start = end;
         k += 1;
-        match patch(other, coords, face, plane, planes, kept, m, first, second) {
-            Left::Nothing => {}
-            Left::Outline(n, in_second) => {
-                let shown = work_lists::shown(first, second, n * 3, in_second);
-                sum = sum + contribution(shown, reference);
-            }
-            Left::NoRoom => return Sum::NoRoom,
+        let u = Tally { other, m, sum };
+        match add_face(u, coords, face, plane, planes, kept, first, second) {
+            Sum::Is(v) => sum = v,
+            Sum::NoRoom => return Sum::NoRoom,
         }
     }
     Sum::Is(sum)
@@ -213,56 +282,110 @@ fn magnitude_of(sum: Sum) -> Sum
     }
 }
 
-// The overlap of two cells, in scratch lists that hold the planes of the first, those of the second, and some of those.
-fn overlap_in(
+// The planes of both cells laid into a list that has just so many numbers, those of the first before those of the second.
+fn both_planes(
     coords: &[f64],
     corners: &[u32],
     ends: &[u32],
     coords2: &[f64],
     corners2: &[u32],
     ends2: &[u32],
-    own: &mut [f64],
-    planes: &mut [f64],
-    kept: &mut [f64],
+    list: &mut [f64],
+)
+    requires { ⌜ Solid (now coords) (now corners) (now ends) ⌝ }
+    requires { ⌜ Solid (now coords2) (now corners2) (now ends2) ⌝ }
+    requires { ⌜ length (now list) ≡ length (now ends) * 4 + length (now ends2) * 4 ⌝ }
+    ensures { λ _. ⌜ Joint (length (old ends) * 4) (length (old ends2) * 4)
+        (planesOf (verticesOf (old coords)) (facesOf (old corners) (old ends)))
+        (planesOf (verticesOf (old coords2)) (facesOf (old corners2) (old ends2))) (new list) ⌝ }
+{
+    let n = ends.len() * 4;
+    planes::planes(coords, corners, ends, &mut list[0..n]);
+    planes::planes(coords2, corners2, ends2, &mut list[n..]);
+}
+
+// The overlap of two cells of at most 16 faces each: one list has the planes of both, the other some of the second's.
+fn overlap_16(
+    coords: &[f64],
+    corners: &[u32],
+    ends: &[u32],
+    coords2: &[f64],
+    corners2: &[u32],
+    ends2: &[u32],
     first: &mut [f64],
     second: &mut [f64],
 ) -> Sum
     requires { ⌜ Solid (now coords) (now corners) (now ends) ⌝ }
     requires { ⌜ Solid (now coords2) (now corners2) (now ends2) ⌝ }
-    requires { ⌜ Scratch (now ends) (now ends2) (now own) (now planes) (now kept) ⌝ }
+    requires { ⌜ (length (now ends) ≤ 16) × (length (now ends2) ≤ 16) ⌝ }
     requires { ⌜ (length (now first) ≤ mostWorkNumbers) × (length (now second) ≤ mostWorkNumbers) ⌝ }
-    ensures { λ r. ⌜ r ≡ overlapOf (shorterOf (length (verticesOf (now (first .entry)))) (length (verticesOf (now (second .entry))))) (verticesOf (now (coords .entry))) (facesOf (now (corners .entry)) (now (ends .entry))) (verticesOf (now (coords2 .entry))) (facesOf (now (corners2 .entry)) (now (ends2 .entry))) ⌝ }
+    ensures { λ r. ⌜ r ≡ overlapOf (roomOf (old first) (old second)) (verticesOf (old coords)) (facesOf (old corners) (old ends))
+        (verticesOf (old coords2)) (facesOf (old corners2) (old ends2)) ⌝ }
 {
-    planes::planes(coords, corners, ends, own);
-    planes::planes(coords2, corners2, ends2, planes);
+    let all = ends.len() * 4 + ends2.len() * 4;
+    let mut list = [0.0; 128];
+    let mut kept = [0.0; 64];
+    let both = &mut list[0..all];
+    both_planes(coords, corners, ends, coords2, corners2, ends2, both);
     let m = tolerances::measures(coords, coords2);
-    match add_faces(
-        false,
-        coords,
-        corners,
-        ends,
-        own,
-        planes,
-        kept,
+    let t = Tally {
+        other: false,
         m,
-        0.0,
-        first,
-        second,
-    ) {
+        sum: 0.0,
+    };
+    match add_faces(t, coords, corners, ends, both, &mut kept, first, second) {
         Sum::NoRoom => Sum::NoRoom,
-        Sum::Is(v) => magnitude_of(add_faces(
-            true,
-            coords2,
-            corners2,
-            ends2,
-            planes,
-            own,
-            kept,
-            m,
-            v,
-            first,
-            second,
-        )),
+        Sum::Is(sum) => {
+            let u = Tally {
+                other: true,
+                m,
+                sum,
+            };
+            let whole = add_faces(u, coords2, corners2, ends2, both, &mut kept, first, second);
+            magnitude_of(whole)
+        }
+    }
+}
+
+// The same for cells of any number of faces.
+fn overlap_256(
+    coords: &[f64],
+    corners: &[u32],
+    ends: &[u32],
+    coords2: &[f64],
+    corners2: &[u32],
+    ends2: &[u32],
+    first: &mut [f64],
+    second: &mut [f64],
+) -> Sum
+    requires { ⌜ Solid (now coords) (now corners) (now ends) ⌝ }
+    requires { ⌜ Solid (now coords2) (now corners2) (now ends2) ⌝ }
+    requires { ⌜ (length (now first) ≤ mostWorkNumbers) × (length (now second) ≤ mostWorkNumbers) ⌝ }
+    ensures { λ r. ⌜ r ≡ overlapOf (roomOf (old first) (old second)) (verticesOf (old coords)) (facesOf (old corners) (old ends))
+        (verticesOf (old coords2)) (facesOf (old corners2) (old ends2)) ⌝ }
+{
+    let all = ends.len() * 4 + ends2.len() * 4;
+    let mut list = [0.0; 2048];
+    let mut kept = [0.0; 1024];
+    let both = &mut list[0..all];
+    both_planes(coords, corners, ends, coords2, corners2, ends2, both);
+    let m = tolerances::measures(coords, coords2);
+    let t = Tally {
+        other: false,
+        m,
+        sum: 0.0,
+    };
+    match add_faces(t, coords, corners, ends, both, &mut kept, first, second) {
+        Sum::NoRoom => Sum::NoRoom,
+        Sum::Is(sum) => {
+            let u = Tally {
+                other: true,
+                m,
+                sum,
+            };
+            let whole = add_faces(u, coords2, corners2, ends2, both, &mut kept, first, second);
+            magnitude_of(whole)
+        }
     }
 }
 
@@ -273,7 +396,7 @@ fn larger(a: usize, b: usize) -> usize
     if a < b { b } else { a }
 }
 
-// The overlap of two cells. The scratch lists are small where the cells have few faces.
+// The overlap of two cells. The lists are small where both cells have few faces.
 fn overlap(
     coords: &[f64],
     corners: &[u32],
@@ -287,41 +410,28 @@ fn overlap(
     requires { ⌜ Solid (now coords) (now corners) (now ends) ⌝ }
     requires { ⌜ Solid (now coords2) (now corners2) (now ends2) ⌝ }
     requires { ⌜ (length (now first) ≤ mostWorkNumbers) × (length (now second) ≤ mostWorkNumbers) ⌝ }
-    ensures { λ r. ⌜ r ≡ overlapOf (shorterOf (length (verticesOf (now (first .entry)))) (length (verticesOf (now (second .entry))))) (verticesOf (now (coords .entry))) (facesOf (now (corners .entry)) (now (ends .entry))) (verticesOf (now (coords2 .entry))) (facesOf (now (corners2 .entry)) (now (ends2 .entry))) ⌝ }
+    ensures { λ r. ⌜ r ≡ overlapOf (roomOf (old first) (old second)) (verticesOf (old coords)) (facesOf (old corners) (old ends))
+        (verticesOf (old coords2)) (facesOf (old corners2) (old ends2)) ⌝ }
 {
-    let n = ends.len() * 4;
-    let m = ends2.len() * 4;
-    if larger(n, m) <= 64 {
-        let mut own = [0.0; 64];
-        let mut planes = [0.0; 64];
-        let mut kept = [0.0; 64];
-        return overlap_in(
+    if larger(ends.len(), ends2.len()) <= 16 {
+        return overlap_16(
             coords,
             corners,
             ends,
             coords2,
             corners2,
             ends2,
-            &mut own[0..n],
-            &mut planes[0..m],
-            &mut kept,
             first,
             second,
         );
     }
-    let mut own = [0.0; 1024];
-    let mut planes = [0.0; 1024];
-    let mut kept = [0.0; 1024];
-    overlap_in(
+    overlap_256(
         coords,
         corners,
         ends,
         coords2,
         corners2,
         ends2,
-        &mut own[0..n],
-        &mut planes[0..m],
-        &mut kept,
         first,
         second,
     )
@@ -341,7 +451,8 @@ fn intersection(
     requires { ⌜ Solid (now coords) (now corners) (now ends) ⌝ }
     requires { ⌜ Solid (now coords2) (now corners2) (now ends2) ⌝ }
     requires { ⌜ (length (now first) ≤ mostWorkNumbers) × (length (now second) ≤ mostWorkNumbers) ⌝ }
-    ensures { λ r. ⌜ r ≡ intersectionOf (shorterOf (length (verticesOf (now (first .entry)))) (length (verticesOf (now (second .entry))))) (verticesOf (now (coords .entry))) (facesOf (now (corners .entry)) (now (ends .entry))) (verticesOf (now (coords2 .entry))) (facesOf (now (corners2 .entry)) (now (ends2 .entry))) ⌝ }
+    ensures { λ r. ⌜ r ≡ intersectionOf (roomOf (old first) (old second)) (verticesOf (old coords)) (facesOf (old corners) (old ends))
+        (verticesOf (old coords2)) (facesOf (old corners2) (old ends2)) ⌝ }
 {
     if tolerances::boxes_miss(flat::space::bounds(coords), flat::space::bounds(coords2)) {
         return Sum::Is(0.0);
@@ -373,8 +484,12 @@ pub fn convex_intersection_volume(
     requires { ⌜ Solid (now coords) (now corners) (now ends) ⌝ }
     requires { ⌜ Solid (now coords2) (now corners2) (now ends2) ⌝ }
     requires { ⌜ (length (now first) ≤ mostWorkNumbers) × (length (now second) ≤ mostWorkNumbers) ⌝ }
-    ensures { λ r. ⌜ r ≡ intersectionOf (shorterOf (length (verticesOf (now (first .entry)))) (length (verticesOf (now (second .entry))))) (verticesOf (now (coords .entry))) (facesOf (now (corners .entry)) (now (ends .entry))) (verticesOf (now (coords2 .entry))) (facesOf (now (corners2 .entry)) (now (ends2 .entry))) ⌝ }
-    ensures { λ _. ⌜ (now (first .exit) ≡ replicate (length (now (first .entry))) zero64) × (now (second .exit) ≡ replicate (length (now (second .entry))) zero64) ⌝ }
+    ensures { λ r. ⌜ r ≡ intersectionOf
+        (shorterOf (length (verticesOf (now (first .entry)))) (length (verticesOf (now (second .entry)))))
+        (verticesOf (now (coords .entry))) (facesOf (now (corners .entry)) (now (ends .entry)))
+        (verticesOf (now (coords2 .entry))) (facesOf (now (corners2 .entry)) (now (ends2 .entry))) ⌝ }
+    ensures { λ _. ⌜ (now (first .exit) ≡ replicate (length (now (first .entry))) zero64)
+        × (now (second .exit) ≡ replicate (length (now (second .entry))) zero64) ⌝ }
 {
     let r = intersection(
         coords,

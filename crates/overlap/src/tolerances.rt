@@ -80,7 +80,8 @@ fn farthest(coords: &[f64], c: [f64; 3], m: f64) -> f64
     far
 }
 
-// The tolerances of an overlap and its reference point. The root grows with the number, so the largest distance is the root of the largest square. The constant is 2^-46, 64 times the distance from 1 to the next f64.
+// The tolerances of an overlap and its reference point. The root grows with the number, so the largest distance is the root of
+// the largest square. The constant is 2^-46, 64 times the distance from 1 to the next f64.
 // Ruled out: a radial length of the first cell's vertices alone; the centroid of both cells for the reference point.
 pub fn measures(a: &[f64], b: &[f64]) -> Measures
     requires { ⌜ (length (now a) ≤ mostCoordinates) × (length (now b) ≤ mostCoordinates) ⌝ }

@@ -1,4 +1,5 @@
--- A loop that changes a state at each of n places, whatever it does there. Its invariant says: what is left to do from here makes the whole.
+-- A loop that changes a state at each of n places, whatever it does there, by its start, its next place and its end: the invariant of the
+-- loops that fill or turn a list. It says that what is left to do from here makes the whole.
 use mathlib.Core.Path.{_≡_, sym, _∙_}
 use Prim.Native.Nat.{ℕ, zero, suc, _+_, _-_, _<_, _≤_, zero-le}
 use native.Mathlib.Nat.{sub-zero}

@@ -1,4 +1,5 @@
--- Lists: a shift to the left, a fill, a list without an element, what is written from the front, and what holds at each place.
+-- Lists: one without an element, a shift to the left, a fill, what is written from the front, and what holds at each place, for the loops
+-- that change a list in place.
 use mathlib.Core.Path.{_≡_, refl, sym, ap, _∙_}
 use mathlib.Core.List.{List, [], _∷_, _++_, map, append-assoc, append-nil}
 use Prim.Native.Nat.{ℕ, zero, suc, _+_, _-_, _<_, _≤_, min}
@@ -74,7 +75,8 @@ module _ {A : Type 0} (d : A) where
       rw (e, g) (shift-tail (length xs - 1 - k) k x xs ∙ ap (λ (r : List A). x ∷ r) (shift-removed k xs (le-of-suc-le-suc h)))
 
 -- the first m are shifted over k: the first m - 1 are those without k
-pub take-removed : {A : Type 0} (k m : ℕ) (l : List A) → k < m → m ≤ length l → take (m - 1) (removed k (take m l) ++ drop m l) ≡ without k (take m l)
+pub take-removed : {A : Type 0} (k m : ℕ) (l : List A) → k < m → m ≤ length l
+    → take (m - 1) (removed k (take m l) ++ drop m l) ≡ without k (take m l)
 unfolding removed
 take-removed k m l h g =
     let e : length (take m l) ≡ m = length-take-le m l g in
@@ -89,7 +91,8 @@ abbrev pub look : {A B : Type 0} → A → (A → B) → List A → ℕ → B
 look d f l i = f (getD l i d)
 
 module _ {A B : Type 0} (d : A) (f : A → B) (l : List A) where
-  fill-from : (left i : ℕ) (to : List B) → i + left ≡ length l → length to ≡ length l → foldFrom (fill (look d f l)) left i to ≡ take i to ++ map f (drop i l)
+  fill-from : (left i : ℕ) (to : List B) → i + left ≡ length l → length to ≡ length l
+      → foldFrom (fill (look d f l)) left i to ≡ take i to ++ map f (drop i l)
   unfolding foldFrom
   fill-from zero i to e g = rw (drop-of-length-le l {i = i} (omega arith)) (sym (append-nil (take i to) ∙ take-all i to (omega arith)))
   fill-from (suc left) i to e g =

@@ -1,5 +1,5 @@
--- The loops of specs/Loops.antt and specs/Ring.antt. An invariant is one record that says: what is left of the list makes, with the state, the whole.
--- Each loop's proof is its start, its next place and its end.
+-- The loops of specs/Loops.antt and specs/Ring.antt, each by its start, its next place and its end, for the proof of every function that
+-- loops over a list. An invariant is one record that says: what is left of the list makes, with the state, the whole.
 use mathlib.Core.Path.{_≡_, refl, sym, _∙_, ap}
 use mathlib.Core.Logic.{⊎-elim}
 use mathlib.Core.Bool.{Bool, true, false, _||_}
@@ -114,7 +114,8 @@ module _ {A : Type 0} {test : A → Bool} {l : List A} {whole : ℕ} where
   pub count-start : countOf test l ≡ whole → Counting test l whole 0 0
   count-start e = record { within = zero-le; few = zero-le; so = zero-add (countOf test l) ∙ e }
 
-  pub count-next : {i n n′ : ℕ} (d : A) → Counting test l whole i n → i < length l → n′ ≡ n + pick (test (getD l i d)) 1 0 → Counting test l whole (i + 1) n′
+  pub count-next : {i n n′ : ℕ} (d : A) → Counting test l whole i n → i < length l → n′ ≡ n + pick (test (getD l i d)) 1 0
+      → Counting test l whole (i + 1) n′
   unfolding countOf
   count-next {i} {n} {n′} d p h e =
       record {
@@ -158,7 +159,8 @@ unfolding firstFrom
 first-below test zero i k e = let z : _≡_ {A = ℕ} 0 1 = cc in omega arith
 first-below test (suc left) i k e = go (test i) e (first-below test left (i + 1) k)
   where
-    go : (b : Bool) → pick b (At i) (firstFrom test left (i + 1)) ≡ At k → (firstFrom test left (i + 1) ≡ At k → k < i + 1 + left) → k < i + suc left
+    go : (b : Bool) → pick b (At i) (firstFrom test left (i + 1)) ≡ At k → (firstFrom test left (i + 1) ≡ At k → k < i + 1 + left)
+        → k < i + suc left
     go true e r = let q : i ≡ k = cc in omega arith
     go false e r = omega (arith, r e)
 

@@ -1,4 +1,5 @@
--- The places beside a place of a ring are on the ring, and the side at a place runs from there to the next.
+-- The places beside a place of a ring are on the ring, and the side at a place runs from there to the next; the loops that go round a ring
+-- need both.
 use mathlib.Core.Path.{_≡_, refl, sym, _∙_, ap}
 use mathlib.Core.Bool.{Bool, true, false}
 use mathlib.Core.List.{List, [], _∷_, _++_}
@@ -54,7 +55,8 @@ module _ {A : Type 0} where
   length-sides [] = refl
   length-sides (a ∷ l) = length-walk a l a
 
-  walk-at : (a : A) (l : List A) (z : A) (i : ℕ) (d : A) → i ≤ length l → getD (walk a l z) i (d, d) ≡ (getD (a ∷ l) i d, getD (l ++ z ∷ []) i d)
+  walk-at : (a : A) (l : List A) (z : A) (i : ℕ) (d : A) → i ≤ length l
+      → getD (walk a l z) i (d, d) ≡ (getD (a ∷ l) i d, getD (l ++ z ∷ []) i d)
   walk-at a [] z zero d h = refl
   walk-at a [] z (suc i) d h = absurd (not-suc-le-zero h)
   walk-at a (b ∷ l) z zero d h = refl

@@ -1,4 +1,5 @@
--- From the stored numbers to the points and back: how many points there are, the numbers of the point at a place, what storing a point's numbers does, the numbers over, the first points, and a list whose front was lent and has come back.
+-- From the stored numbers to the points and back: how many there are, the numbers of one, what storing one does, the numbers over, the
+-- first points, and a front that was lent and has come back; for those who read and write points by number.
 use mathlib.Core.Path.{_≡_, refl, ap, _∙_}
 use mathlib.Core.List.{List, [], _∷_, _++_}
 use Prim.Native.Nat.{ℕ, zero, suc, _+_, _*_, _/_, _%_, _<_}
@@ -22,7 +23,8 @@ module _ {A : Type 0} where
   length-pairs (a ∷ b ∷ l) = omega (arith, length-pairs l)
 
   -- the point at place i has the three numbers from 3 i on, or the two from 2 i on
-  pub threes-at : (l : List A) (i : ℕ) (d : A) → i < length l / 3 → getD (inThrees l) i [] ≡ getD l (i * 3) d ∷ getD l (i * 3 + 1) d ∷ getD l (i * 3 + 2) d ∷ []
+  pub threes-at : (l : List A) (i : ℕ) (d : A) → i < length l / 3
+      → getD (inThrees l) i [] ≡ getD l (i * 3) d ∷ getD l (i * 3 + 1) d ∷ getD l (i * 3 + 2) d ∷ []
   unfolding inThrees
   threes-at [] i d h = absurd (omega arith)
   threes-at (a ∷ []) i d h = absurd (omega arith)
@@ -45,13 +47,6 @@ module _ {A : Type 0} where
       rw (e, e1) (pairs-at l i d (omega arith))
 
   -- where no number is over, the points have all the numbers
-  pub joined-threes : (l : List A) → length l % 3 ≡ 0 → joined (inThrees l) ≡ l
-  unfolding inThrees joined
-  joined-threes [] h = refl
-  joined-threes (a ∷ []) h = absurd (omega arith)
-  joined-threes (a ∷ b ∷ []) h = absurd (omega arith)
-  joined-threes (a ∷ b ∷ c ∷ l) h = ap (λ (r : List A). a ∷ b ∷ c ∷ r) (joined-threes l (omega arith))
-
   pub joined-pairs : (l : List A) → length l % 2 ≡ 0 → joined (inPairs l) ≡ l
   unfolding inPairs joined
   joined-pairs [] h = refl
@@ -73,7 +68,8 @@ module _ {A : Type 0} where
   whole-pairs (a ∷ b ∷ l) = ap (λ (r : List A). a ∷ b ∷ r) (whole-pairs l)
 
   -- storing two numbers from 2 i on is storing a point at i
-  pub pairs-set : (l : List A) (i : ℕ) (a b : A) → i < length l / 2 → inPairs (set (set l (i * 2) a) (i * 2 + 1) b) ≡ set (inPairs l) i (a ∷ b ∷ [])
+  pub pairs-set : (l : List A) (i : ℕ) (a b : A) → i < length l / 2
+      → inPairs (set (set l (i * 2) a) (i * 2 + 1) b) ≡ set (inPairs l) i (a ∷ b ∷ [])
   unfolding inPairs
   pairs-set [] i a b h = absurd (omega arith)
   pairs-set (x ∷ []) i a b h = absurd (omega arith)
@@ -95,7 +91,8 @@ module _ {A : Type 0} where
       rw (e, e1) (over-pairs-set l i a b (omega arith))
 
   -- a point of the plane is its two numbers
-  pub pairs-whole : (l : List A) (i : ℕ) (d : A) → i < length (inPairs l) → getD (getD (inPairs l) i []) 0 d ∷ getD (getD (inPairs l) i []) 1 d ∷ [] ≡ getD (inPairs l) i []
+  pub pairs-whole : (l : List A) (i : ℕ) (d : A) → i < length (inPairs l)
+      → getD (getD (inPairs l) i []) 0 d ∷ getD (getD (inPairs l) i []) 1 d ∷ [] ≡ getD (inPairs l) i []
   pairs-whole l i d h = rw (pairs-at l i d (omega (arith, length-pairs l)))
 
 -- ---- a point laid down, the first points, the front of a list
@@ -184,5 +181,6 @@ module _ {A : Type 0} where
   threes-append (a ∷ b ∷ []) ys h = absurd (omega arith)
   threes-append (a ∷ b ∷ c ∷ xs) ys h = rw (threes-append xs ys (omega arith))
 
-  pub threes-front : (n : ℕ) (front l : List A) → length front ≡ n * 3 → inThrees (front ++ drop (n * 3) l) ≡ inThrees front ++ drop n (inThrees l)
+  pub threes-front : (n : ℕ) (front l : List A) → length front ≡ n * 3
+      → inThrees (front ++ drop (n * 3) l) ≡ inThrees front ++ drop n (inThrees l)
   threes-front n front l h = rw (threes-append front (drop (n * 3) l) (omega arith), threes-drop n l)

@@ -1,5 +1,5 @@
--- A loop that writes one stretch of a list after the other: what stands before the stretch stays as it has become,
--- what stands after it as it was at first.
+-- A loop that writes one stretch of a list after the other, as `outward::into_ccw` does: what stands before the stretch stays as it has
+-- become, what stands after it as it was at first.
 use mathlib.Core.Path.{_≡_, _∙_}
 use mathlib.Core.List.{List, _++_, append-assoc}
 use Prim.Native.Nat.{ℕ, _+_, _-_, _≤_}

@@ -1,4 +1,5 @@
--- A loop that goes once round a ring and keeps the corner that it came from, so that each corner is read once.
+-- A loop that goes once round a ring and keeps the corner that it came from, so that each corner is read once: its start, its next corner
+-- and its end.
 use mathlib.Core.Path.{_≡_, sym, _∙_}
 use mathlib.Core.List.{List, [], _∷_}
 use Prim.Native.Nat.{ℕ, _+_, _<_, _≤_}
@@ -20,7 +21,8 @@ module _ {A S : Type 0} {f : A → A → S → S} {l : List A} {whole : S} where
       go [] h e = absurd (omega arith)
       go (x ∷ xs) h e = e
 
-  pub walk-next : {z a b : A} {i : ℕ} {s s′ : S} (d : A) → Walking f l whole z i a s → i < length l → b ≡ getD l i d → s′ ≡ f a b s → Walking f l whole z (i + 1) b s′
+  pub walk-next : {z a b : A} {i : ℕ} {s s′ : S} (d : A) → Walking f l whole z i a s → i < length l → b ≡ getD l i d → s′ ≡ f a b s
+      → Walking f l whole z (i + 1) b s′
   unfolding foldPairs
   walk-next {z} {a} {b} {i} {s} {s′} d w h q e = record { within = omega arith; so = rw (e, q) (sym (rw (drop-more l i d h)) ∙ w .so) }
 

@@ -41,6 +41,7 @@ pub area-refused : {o : Outcome} {a b : List Point} → Ended o clipped.NoRoom a
 area-refused q = rw (room-lacks q)
 
 pub area-shown : {o : Outcome} {n : ℕ} {second : Bool} (a b : List Float) {l : List Float} {s x : Float}
-    → Ended o (Outline n second) (inPairs a) (inPairs b) → l ≡ take (n * 2) (pick second b a) → s ≡ signedAreaOf (inPairs l) → x ≡ magnitudeOf s → Is x ≡ areaAnswer o
+    → Ended o (Outline n second) (inPairs a) (inPairs b) → l ≡ take (n * 2) (pick second b a)
+    → s ≡ signedAreaOf (inPairs l) → x ≡ magnitudeOf s → Is x ≡ areaAnswer o
 unfolding intersectionAreaOf
 area-shown {n = n} {second = second} a b q e f g = rw (outline-left reads-pairs q, g, f, e, pairs-take n (pick second b a))

@@ -1,3 +1,2 @@
 pub mod Edges
 pub mod Areas
-pub mod Rows

@@ -1,4 +1,5 @@
-// An outline of the plane clipped by the edges of another, from one work list into the other and back; and the area of what is left.
+// An outline of the plane clipped by the edges of another, from one work list into the other and back;
+// and the area of what is left.
 use work_lists::Left;
 use work_lists::Step;
 use work_lists::Sum;
@@ -6,10 +7,11 @@ ghost use mathlib.Core.Path.{_≡_};
 ghost use mathlib.Core.Bool.{false};
 ghost use Prim.Native.Nat.{_<_, _≤_};
 ghost use lib.ListN.{length, take};
+ghost use Rattle.places.specs.Lent.{old, new};
 ghost use Rattle.places.specs.Limits.{mostWorkNumbers};
 ghost use Rattle.places.specs.Stored.{inPairs};
 ghost use Rattle.places.specs.Ring.{sides};
-ghost use Rattle.work_lists.specs.WorkLists.{runOf, shorterOf};
+ghost use Rattle.work_lists.specs.WorkLists.{outline, runOf, shorterOf};
 ghost use Rattle.work_lists.specs.Steps.{Ended, Settled, Shows, Moved};
 ghost use Rattle.planar.specs.Planar.{edgeChange, clipConvexOf, areaAnswer};
 
@@ -17,7 +19,7 @@ ghost use Rattle.planar.specs.Planar.{edgeChange, clipConvexOf, areaAnsw
 fn advance(src: &[f64], dst: &mut [f64], room: usize, a: [f64; 2], b: [f64; 2]) -> Step
     requires { ⌜ length (now src) ≤ mostWorkNumbers ⌝ }
     requires { ⌜ room ≤ length (inPairs (now dst)) ⌝ }
-    ensures { λ r. ⌜ Shows room (edgeChange room (a, b) (inPairs (now (src .entry)))) r (inPairs (now (dst .exit))) ⌝ }
+    ensures { λ r. ⌜ Shows room (edgeChange room (a, b) (inPairs (old src))) r (inPairs (new dst)) ⌝ }
 {
     if src.len() / 2 < 3 {
         return Step::Gone;
@@ -41,7 +43,8 @@ fn advance_from(
 ) -> Step
     requires { ⌜ (length (now first) ≤ mostWorkNumbers) × (length (now second) ≤ mostWorkNumbers) ⌝ }
     requires { ⌜ (n ≤ room) × (room ≤ length (inPairs (now first))) × (room ≤ length (inPairs (now second))) ⌝ }
-    ensures { λ r. ⌜ Moved room (edgeChange room) (a, b) n in_second (inPairs (now (first .entry))) (inPairs (now (second .entry))) r (inPairs (now (first .exit))) (inPairs (now (second .exit))) ⌝ }
+    ensures { λ r. ⌜ Moved room (edgeChange room) (a, b) n in_second (inPairs (old first)) (inPairs (old second))
+        r (inPairs (new first)) (inPairs (new second)) ⌝ }
 {
     if in_second {
         return advance(&second[0..n * 2], first, room, a, b);
@@ -53,7 +56,8 @@ fn advance_from(
 fn run(first: &mut [f64], second: &mut [f64], count: usize, room: usize, clip: &[f64]) -> Left
     requires { ⌜ (length (now first) ≤ mostWorkNumbers) × (length (now second) ≤ mostWorkNumbers) ⌝ }
     requires { ⌜ (count ≤ room) × (room ≤ length (inPairs (now first))) × (room ≤ length (inPairs (now second))) ⌝ }
-    ensures { λ r. ⌜ Ended (runOf (edgeChange room) (sides (inPairs (now (clip .entry)))) false (take count (inPairs (now (first .entry))))) r (inPairs (now (first .exit))) (inPairs (now (second .exit))) ⌝ }
+    ensures { λ r. ⌜ Ended (runOf (edgeChange room) (sides (inPairs (old clip))) (outline false (take count (inPairs (old first)))))
+        r (inPairs (new first)) (inPairs (new second)) ⌝ }
 {
     let many = clip.len() / 2;
     let mut n = count;
@@ -83,22 +87,24 @@ fn run(first: &mut [f64], second: &mut [f64], count: usize, room: usize, clip: &
 fn gather(src: &[f64], dst: &mut [f64])
     requires { ⌜ length (inPairs (now src)) ≤ length (inPairs (now dst)) ⌝ }
     requires { ⌜ length (now src) ≤ mostWorkNumbers ⌝ }
-    ensures { λ _. ⌜ take (length (inPairs (now (src .entry)))) (inPairs (now (dst .exit))) ≡ inPairs (now (src .entry)) ⌝ }
+    ensures { λ _. ⌜ take (length (inPairs (old src))) (inPairs (new dst)) ≡ inPairs (old src) ⌝ }
 {
     let n = src.len() / 2;
     let mut i = 0;
     while i < n {
-        clip_step::edge::put(dst, i, outline::pair(src, i));
+        outline::put_pair(dst, i, outline::pair(src, i));
         i += 1;
     }
 }
 
-// An outline clipped by the edges of another: the answer, with the outline at the front of its list. Both lists keep what else was written.
+// An outline clipped by the edges of another: the answer, with the outline at the front of its list.
+// Both lists keep what else was written.
 // Ruled out: a subject of 2 points emptied when there is no edge; a program that leaves out the edge from the last point to the first.
 fn clip_convex(subject: &[f64], clip: &[f64], first: &mut [f64], second: &mut [f64]) -> Left
     requires { ⌜ (length (now subject) ≤ 1024) × (length (now clip) ≤ 1024) ⌝ }
     requires { ⌜ (length (now first) ≤ mostWorkNumbers) × (length (now second) ≤ mostWorkNumbers) ⌝ }
-    ensures { λ r. ⌜ Ended (clipConvexOf (shorterOf (length (inPairs (now (first .entry)))) (length (inPairs (now (second .entry))))) (inPairs (now (subject .entry))) (inPairs (now (clip .entry)))) r (inPairs (now (first .exit))) (inPairs (now (second .exit))) ⌝ }
+    ensures { λ r. ⌜ Ended (clipConvexOf (shorterOf (length (inPairs (old first))) (length (inPairs (old second))))
+        (inPairs (old subject)) (inPairs (old clip))) r (inPairs (new first)) (inPairs (new second)) ⌝ }
 {
     let room = work_lists::shorter(first.len() / 2, second.len() / 2);
     let n = subject.len() / 2;
@@ -119,7 +125,8 @@ pub fn clip_convex_shown(
 ) -> Left
     requires { ⌜ (length (now subject) ≤ 1024) × (length (now clip) ≤ 1024) ⌝ }
     requires { ⌜ (length (now first) ≤ mostWorkNumbers) × (length (now second) ≤ mostWorkNumbers) ⌝ }
-    ensures { λ r. ⌜ Settled (clipConvexOf (shorterOf (length (inPairs (now (first .entry)))) (length (inPairs (now (second .entry))))) (inPairs (now (subject .entry))) (inPairs (now (clip .entry)))) r (now (first .entry)) (now (second .entry)) (now (first .exit)) (now (second .exit)) ⌝ }
+    ensures { λ r. ⌜ Settled (clipConvexOf (shorterOf (length (inPairs (old first))) (length (inPairs (old second))))
+        (inPairs (old subject)) (inPairs (old clip))) r (old first) (old second) (new first) (new second) ⌝ }
 {
     let r = clip_convex(subject, clip, first, second);
     work_lists::settle_answer(first, second, r, 2);
@@ -136,7 +143,8 @@ pub fn convex_intersection_area(
 ) -> Sum
     requires { ⌜ (length (now subject) ≤ 1024) × (length (now clip) ≤ 1024) ⌝ }
     requires { ⌜ (length (now first) ≤ mostWorkNumbers) × (length (now second) ≤ mostWorkNumbers) ⌝ }
-    ensures { λ r. ⌜ r ≡ areaAnswer (clipConvexOf (shorterOf (length (inPairs (now (first .entry)))) (length (inPairs (now (second .entry))))) (inPairs (now (subject .entry))) (inPairs (now (clip .entry)))) ⌝ }
+    ensures { λ r. ⌜ r ≡ areaAnswer (clipConvexOf (shorterOf (length (inPairs (old first))) (length (inPairs (old second))))
+        (inPairs (old subject)) (inPairs (old clip))) ⌝ }
 {
     match clip_convex(subject, clip, first, second) {
         Left::Nothing => Sum::Is(0.0),

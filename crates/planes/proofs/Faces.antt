@@ -1,4 +1,4 @@
--- A loop over the faces of a cell that has no empty face, which lays down what f gives of each; and what the planes want for f.
+-- A loop over the faces of a cell that has no empty face, which lays down what f gives of each; `planes` lays down the plane of each face.
 use mathlib.Core.Path.{_≡_, refl, sym, _∙_}
 use mathlib.Core.Bool.{Bool, true, false}
 use mathlib.Core.List.{List, _++_, map, append-assoc, append-nil}
@@ -28,7 +28,8 @@ pub record Laying {A : Type 0} (f : List ℕ → A) (c es : List ℕ) (whole : L
   pub so : take k out ++ map f (facesFrom p c (drop k es)) ≡ whole
 
 module _ {A : Type 0} {f : List ℕ → A} {c es : List ℕ} where
-  pub lay-start : {out : List A} → T (rises 0 es (length c)) → emptyRefused c es ≡ false → length out ≡ length es → Laying f c es (map f (facesOf c es)) 0 0 out
+  pub lay-start : {out : List A} → T (rises 0 es (length c)) → emptyRefused c es ≡ false → length out ≡ length es
+      → Laying f c es (map f (facesOf c es)) 0 0 out
   unfolding emptyRefused facesOf
   lay-start t e r = record { solid = faces-start t e; room = r; so = refl }
 
@@ -47,12 +48,14 @@ module _ {A : Type 0} {f : List ℕ → A} {c es : List ℕ} {whole out : List A
   pub lay-corner : {e : ℕ} → Laying f c es whole p k out → k < length es → e ≡ getD es k 0 → 0 < length (slice p e c)
   lay-corner {e} l h q = has-corner (slice p e c) (lay-solid l h q)
 
-  pub lay-next : {e : ℕ} {out′ : List A} → Laying f c es whole p k out → k < length es → e ≡ getD es k 0 → out′ ≡ set out k (f (slice p e c)) → Laying f c es whole e (k + 1) out′
+  pub lay-next : {e : ℕ} {out′ : List A} → Laying f c es whole p k out → k < length es → e ≡ getD es k 0
+      → out′ ≡ set out k (f (slice p e c)) → Laying f c es whole e (k + 1) out′
   lay-next {e} {out′} l h q g =
+      let one-more = take-suc-set out k (f (slice p e c)) (omega (arith, l .room)) in
       record {
         solid = faces-no (l .solid) h q (lay-solid l h q);
         room = rw (g, length-set) (l .room);
-        so = rw (g, add-one k, take-suc-set out k (f (slice p e c)) (omega (arith, l .room)), append-assoc, ← add-one k, q) (sym (rw (faces-more p c es k h)) ∙ l .so);
+        so = rw (g, add-one k, one-more, append-assoc, ← add-one k, q) (sym (rw (faces-more p c es k h)) ∙ l .so);
       }
 
   pub lay-end : Laying f c es whole p k out → length es ≤ k → out ≡ whole

@@ -3,6 +3,7 @@ ghost use mathlib.Core.Path.{_≡_};
 ghost use mathlib.Core.List.{[]};
 ghost use Prim.Native.Nat.{_+_, _*_, _<_, _≤_};
 ghost use lib.ListN.{length, getD, set};
+ghost use Rattle.places.specs.Lent.{old, new};
 ghost use Rattle.flat.specs.Points.{verticesOf, cornersOf};
 ghost use Rattle.flat.specs.Steps.{Inside};
 ghost use Rattle.cell.specs.Faces.{facesOf};
@@ -18,6 +19,7 @@ pub struct Plane {
     pub d: f64,
 }
 
+// The product n · p.
 pub fn dot(n: [f64; 3], p: [f64; 3]) -> f64
     ensures { λ r. ⌜ r ≡ dotOf n p ⌝ }
 {
@@ -49,7 +51,7 @@ fn unit_plane(n: [f64; 3], d: f64) -> Plane
 pub fn plane_of_face(coords: &[f64], face: &[u32]) -> Plane
     requires { ⌜ Inside (verticesOf (now coords)) (now face) ⌝ }
     requires { ⌜ 0 < length (now face) ⌝ }
-    ensures { λ r. ⌜ r ≡ planeOf (cornersOf (verticesOf (now (coords .entry))) (now (face .entry))) ⌝ }
+    ensures { λ r. ⌜ r ≡ planeOf (cornersOf (verticesOf (old coords)) (old face)) ⌝ }
 {
     let n = flat::space::face_normal(coords, face);
     let p = flat::space::vertex_at(coords, face, 0);
@@ -94,7 +96,7 @@ pub fn plane_coplanar_opposite(a: Plane, b: Plane, tol: f64) -> bool
 // Ruled out: the offset read before the normal; the planes counted from the end.
 pub fn plane_at(planes: &[f64], k: usize) -> Plane
     requires { ⌜ k < length (inFours (now planes)) ⌝ }
-    ensures { λ r. ⌜ r ≡ getD (inFours (now (planes .entry))) k noPlane ⌝ }
+    ensures { λ r. ⌜ r ≡ getD (inFours (old planes)) k noPlane ⌝ }
 {
     let i = k * 4;
     let n = [
@@ -112,7 +114,7 @@ pub fn plane_at(planes: &[f64], k: usize) -> Plane
 // Ruled out: the offset laid down before the normal; a store that reaches into the plane after it.
 pub fn put_plane(out: &mut [f64], k: usize, plane: Plane)
     requires { ⌜ k < length (inFours (now out)) ⌝ }
-    ensures { λ _. ⌜ inFours (now (out .exit)) ≡ set (inFours (now (out .entry))) k plane ⌝ }
+    ensures { λ _. ⌜ inFours (new out) ≡ set (inFours (old out)) k plane ⌝ }
 {
     let i = k * 4;
     out[i] = plane.n[0];
@@ -127,7 +129,7 @@ pub fn planes(coords: &[f64], corners: &[u32], ends: &[u32], out: &mut [f64])
     requires { ⌜ Sound (now coords) (now corners) (now ends) ⌝ }
     requires { ⌜ emptyRefused (now corners) (now ends) ≡ false ⌝ }
     requires { ⌜ length (now out) ≡ 4 * length (now ends) ⌝ }
-    ensures { λ _. ⌜ inFours (now (out .exit)) ≡ planesOf (verticesOf (now (coords .entry))) (facesOf (now (corners .entry)) (now (ends .entry))) ⌝ }
+    ensures { λ _. ⌜ inFours (new out) ≡ planesOf (verticesOf (old coords)) (facesOf (old corners) (old ends)) ⌝ }
 {
     let mut start = 0;
     let mut k = 0;

@@ -1,18 +1,21 @@
--- How the counts grow with what a record adds, and that they keep within the limits.
-use mathlib.Core.Path.{_≡_, refl, sym, ap}
+-- The counts grow with what a record adds and keep within the limits, whatever its kind (`tally-follows`): so what the lists hold of the
+-- cell is what the tally counts.
+use mathlib.Core.Path.{_≡_, refl}
 use mathlib.Core.Bool.{Bool, true, false, _&&_}
 use mathlib.Core.List.{List, [], _∷_}
-use Prim.Native.Nat.{ℕ, zero, suc, _+_, _*_, _≤_, _<_}
+use Prim.Native.Nat.{ℕ, zero, suc, _+_, _*_, _<_}
 use native.Mathlib.Omega.{arith}
-use lib.Dec.{eqb, ltb}
+use lib.Dec.{eqb}
 use lib.ListN.{length}
 use lib.Ieee.{Float}
 use borrow.Author.Tests.{eqb-true, ne-eqb}
 use Rattle.places.specs.Loops.{pick}
 use Rattle.records.specs.declared.bytes.Rec.{Rec}
 use Rattle.records.specs.declared.tally.Tally.{Tally}
-use Rattle.records.specs.Tally.{vertexWhy, cornerWhy, faceEndWhy, cellEndWhy, queryWhy, vertexTaken, cornerTaken, faceEndTaken, cellEndTaken, queryTaken, refusedOf, tallyOf, fieldsOf, added}
-use Rattle.records.specs.Tally.{withVertex, withCorner, withFace, withEnd, withQuery, cornerFine, endFine, newCoords, newCorners, newEnds, newQueries, Fits}
+use Rattle.records.specs.Tally.{vertexWhy, cornerWhy, faceEndWhy, cellEndWhy, queryWhy, cornerFine, endFine, fieldsOf, added}
+use Rattle.records.specs.Tally.{vertexTaken, cornerTaken, faceEndTaken, cellEndTaken, queryTaken, refusedOf, tallyOf}
+use Rattle.records.specs.Tally.{withVertex, withCorner, withFace, withEnd, withQuery, Fits, newCoords, newCorners, newEnds}
+use Rattle.records.specs.Tally.{newQueries}
 use Rattle.records.proofs.Tests.{why-room}
 
 -- the tally u follows t, where the lists a, b, c and d are added
@@ -140,7 +143,13 @@ module _ (t : Tally) (r : Rec) (f : Fits t) where
   by-kind (suc (suc (suc (suc (suc zero))))) = query
   by-kind (suc (suc (suc (suc (suc (suc k)))))) =
       let n = suc (suc (suc (suc (suc (suc k))))) in
-      rw (other n 1 (omega arith), other n 2 (omega arith), other n 3 (omega arith), other n 4 (omega arith), other n 5 (omega arith)) (refused 7)
+      rw (
+        other n 1 (omega arith),
+        other n 2 (omega arith),
+        other n 3 (omega arith),
+        other n 4 (omega arith),
+        other n 5 (omega arith),
+      ) (refused 7)
 
   -- a refused cell stays as it is
   pub tally-follows : Follows t (newCoords t r) (newCorners t r) (newEnds t r) (newQueries t r) (tallyOf t r)
@@ -148,10 +157,13 @@ module _ (t : Tally) (r : Rec) (f : Fits t) where
   tally-follows = go (eqb (t .refusal) 0)
     where
       go : (b : Bool)
-          → Follows t (pick (b && eqb (r .kind) 1) (added (vertexWhy t r) (fieldsOf r)) []) (pick (b && eqb (r .kind) 2) (added (cornerWhy t r) (r .a ∷ [])) [])
-          (pick (b && eqb (r .kind) 3) (added (faceEndWhy t r) (t .corners ∷ [])) []) (pick (b && eqb (r .kind) 5) (added (queryWhy t r) (fieldsOf r)) [])
+          → Follows t (pick (b && eqb (r .kind) 1) (added (vertexWhy t r) (fieldsOf r)) [])
+          (pick (b && eqb (r .kind) 2) (added (cornerWhy t r) (r .a ∷ [])) [])
+          (pick (b && eqb (r .kind) 3) (added (faceEndWhy t r) (t .corners ∷ [])) [])
+          (pick (b && eqb (r .kind) 5) (added (queryWhy t r) (fieldsOf r)) [])
           (pick b (pick (eqb (r .kind) 1) (vertexTaken t r)
           (pick (eqb (r .kind) 2) (cornerTaken t r)
-          (pick (eqb (r .kind) 3) (faceEndTaken t r) (pick (eqb (r .kind) 4) (cellEndTaken t r) (pick (eqb (r .kind) 5) (queryTaken t r) (refusedOf t 7)))))) t)
+          (pick (eqb (r .kind) 3) (faceEndTaken t r)
+          (pick (eqb (r .kind) 4) (cellEndTaken t r) (pick (eqb (r .kind) 5) (queryTaken t r) (refusedOf t 7)))))) t)
       go true = by-kind (r .kind)
       go false = none

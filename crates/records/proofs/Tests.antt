@@ -1,4 +1,5 @@
--- What it means that nothing speaks against a record.
+-- What it means that nothing speaks against a record, for the methods that then store: it is fine and there is room; and that three
+-- stores one behind the other are one run.
 use mathlib.Core.Path.{_≡_, refl}
 use mathlib.Core.Bool.{Bool, true, false, _&&_}
 use mathlib.Core.List.{List, [], _∷_}
@@ -21,7 +22,8 @@ pub why-none : (fine room : Bool) → whyOf fine room ≡ 0 → (fine ≡ true) 
 unfolding whyOf
 why-none true true h = (refl, refl)
 why-none true false h = absurd (omega arith)
-why-none false room h = absurd (omega arith)
+why-none false true h = absurd (omega arith)
+why-none false false h = absurd (omega arith)
 
 pub why-room : (fine : Bool) (n most : ℕ) → whyOf fine (ltb n most) ≡ 0 → n < most
 why-room fine n most h = ltb-true n most (why-none fine (ltb n most) h .1)
@@ -35,7 +37,9 @@ last true true false w h = absurd (never h)
 -- a corner's number fits 32 bits
 pub corner-fits : (r : Rec) (room : Bool) → whyOf (cornerFine r) room ≡ 0 → r .a < 4294967296
 unfolding cornerFine
-corner-fits r room h = ltb-true (r .a) 4294967296 (last (r .clear) (eqb (r .b) 0) (eqb (r .c) 0) (ltb (r .a) 4294967296) (why-none (cornerFine r) room h .0))
+corner-fits r room h =
+    let fine = why-none (cornerFine r) room h .0 in
+    ltb-true (r .a) 4294967296 (last (r .clear) (eqb (r .b) 0) (eqb (r .c) 0) (ltb (r .a) 4294967296) fine)
 
 two-more : (i : ℕ) → i + 2 ≡ suc (suc i)
 two-more i = omega arith

@@ -1,6 +1,5 @@
 -- The running tally: what speaks against a record, what each kind makes of the tally, and what it adds to the cell's lists.
-use Prim.Native.Nat.{ℕ, _+_, _*_, _≤_}
-use mathlib.Core.Path.{_≡_}
+use Prim.Native.Nat.{ℕ, _+_, _≤_}
 use mathlib.Core.List.{List, [], _∷_}
 use mathlib.Core.Bool.{Bool, true, false, not, _&&_}
 use lib.ListN.{length}
@@ -63,37 +62,58 @@ refusedOf t why =
 abbrev pub unless : Tally → ℕ → Tally → Tally
 unless t why next = pick (eqb why 0) next (refusedOf t why)
 
+-- a count that a record leaves as it is, and one that it raises
+abbrev pub same : ℕ → ℕ
+same n = n
+
+abbrev pub more : ℕ → ℕ
+more n = n + 1
+
+-- a record is taken: what comes of the vertices, the corners, the faces and the query points, and whether a face is open now
+abbrev pub counted : Tally → (ℕ → ℕ) → (ℕ → ℕ) → (ℕ → ℕ) → (ℕ → ℕ) → Bool → Tally
+counted t verts corners faces queries loose =
+    record {
+      number = t .number;
+      verts = verts (t .verts);
+      corners = corners (t .corners);
+      faces = faces (t .faces);
+      queries = queries (t .queries);
+      loose = loose;
+      refusal = t .refusal;
+      begun = true;
+    }
+
 -- one vertex more
 abbrev pub withVertex : Tally → Tally
-withVertex t = record { number = t .number; verts = t .verts + 1; corners = t .corners; faces = t .faces; queries = t .queries; loose = t .loose; refusal = t .refusal; begun = true }
+withVertex t = counted t more same same same (t .loose)
 
 unfoldable pub vertexTaken : Tally → Rec → Tally
 vertexTaken t r = unless t (vertexWhy t r) (withVertex t)
 
 -- one corner more, of a face that is open from now on
 abbrev pub withCorner : Tally → Tally
-withCorner t = record { number = t .number; verts = t .verts; corners = t .corners + 1; faces = t .faces; queries = t .queries; loose = true; refusal = t .refusal; begun = true }
+withCorner t = counted t same more same same true
 
 unfoldable pub cornerTaken : Tally → Rec → Tally
 cornerTaken t r = unless t (cornerWhy t r) (withCorner t)
 
 -- one face more, and none is open
 abbrev pub withFace : Tally → Tally
-withFace t = record { number = t .number; verts = t .verts; corners = t .corners; faces = t .faces + 1; queries = t .queries; loose = false; refusal = t .refusal; begun = true }
+withFace t = counted t same same more same false
 
 unfoldable pub faceEndTaken : Tally → Rec → Tally
 faceEndTaken t r = unless t (faceEndWhy t r) (withFace t)
 
 -- no more of anything
 abbrev pub withEnd : Tally → Tally
-withEnd t = record { number = t .number; verts = t .verts; corners = t .corners; faces = t .faces; queries = t .queries; loose = t .loose; refusal = t .refusal; begun = true }
+withEnd t = counted t same same same same (t .loose)
 
 unfoldable pub cellEndTaken : Tally → Rec → Tally
 cellEndTaken t r = unless t (cellEndWhy t r) (withEnd t)
 
 -- one query point more
 abbrev pub withQuery : Tally → Tally
-withQuery t = record { number = t .number; verts = t .verts; corners = t .corners; faces = t .faces; queries = t .queries + 1; loose = t .loose; refusal = t .refusal; begun = true }
+withQuery t = counted t same same same more (t .loose)
 
 unfoldable pub queryTaken : Tally → Rec → Tally
 queryTaken t r = unless t (queryWhy t r) (withQuery t)

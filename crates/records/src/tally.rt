@@ -6,6 +6,7 @@ ghost use Prim.Native.Nat.{_+_, _*_, _≤_};
 ghost use lib.ListN.{length};
 ghost use lib.Dec.{ltb};
 ghost use lib.Seq.{sets};
+ghost use Rattle.places.specs.Lent.{old, new};
 ghost use Rattle.places.specs.Limits.{mostCoordinates, mostFaces, mostCorners};
 ghost use Rattle.records.specs.Tally.{whyOf, cornerFine, endFine, vertexWhy, cornerWhy, faceEndWhy, cellEndWhy, queryWhy, newOf};
 ghost use Rattle.records.specs.Tally.{refusedOf, vertexTaken, cornerTaken, faceEndTaken, cellEndTaken, queryTaken, fieldsOf, added};
@@ -69,7 +70,7 @@ fn end_fine(r: Rec) -> bool
 // Stores the three fields as numbers.
 fn put_point(list: &mut [f64], at: usize, r: Rec)
     requires { ⌜ at + 3 ≤ length (now list) ⌝ }
-    ensures { λ _. ⌜ now (list .exit) ≡ sets (now (list .entry)) at (fieldsOf r) ⌝ }
+    ensures { λ _. ⌜ new list ≡ sets (old list) at (fieldsOf r) ⌝ }
 {
     list[at] = floats::of_pattern(r.a);
     list[at + 1] = floats::of_pattern(r.b);
@@ -107,7 +108,7 @@ impl Tally {
     pub fn vertex(self, r: Rec, coords: &mut [f64]) -> Tally
         requires { ⌜ mostCoordinates ≤ length (now coords) ⌝ }
         ensures { λ t. ⌜ t ≡ vertexTaken self r ⌝ }
-        ensures { λ _. ⌜ now (coords .exit) ≡ sets (now (coords .entry)) (self .verts * 3) (added (vertexWhy self r) (fieldsOf r)) ⌝ }
+        ensures { λ _. ⌜ new coords ≡ sets (old coords) (self .verts * 3) (added (vertexWhy self r) (fieldsOf r)) ⌝ }
     {
         let w = why(r.clear, self.verts, places::limits::MOST_VERTICES);
         if w == 0 {
@@ -124,7 +125,7 @@ impl Tally {
     pub fn corner(self, r: Rec, corners: &mut [u32]) -> Tally
         requires { ⌜ mostCorners ≤ length (now corners) ⌝ }
         ensures { λ t. ⌜ t ≡ cornerTaken self r ⌝ }
-        ensures { λ _. ⌜ now (corners .exit) ≡ sets (now (corners .entry)) (self .corners) (added (cornerWhy self r) (r .a ∷ [])) ⌝ }
+        ensures { λ _. ⌜ new corners ≡ sets (old corners) (self .corners) (added (cornerWhy self r) (r .a ∷ [])) ⌝ }
     {
         let w = why(corner_fine(r), self.corners, places::limits::MOST_CORNERS);
         if w == 0 {
@@ -143,7 +144,7 @@ impl Tally {
     pub fn face_end(self, r: Rec, ends: &mut [u32]) -> Tally
         requires { ⌜ (mostFaces ≤ length (now ends)) × (self .corners ≤ mostCorners) ⌝ }
         ensures { λ t. ⌜ t ≡ faceEndTaken self r ⌝ }
-        ensures { λ _. ⌜ now (ends .exit) ≡ sets (now (ends .entry)) (self .faces) (added (faceEndWhy self r) (self .corners ∷ [])) ⌝ }
+        ensures { λ _. ⌜ new ends ≡ sets (old ends) (self .faces) (added (faceEndWhy self r) (self .corners ∷ [])) ⌝ }
     {
         let w = why(end_fine(r), self.faces, places::limits::MOST_FACES);
         if w == 0 {
@@ -177,7 +178,7 @@ impl Tally {
     pub fn query(self, r: Rec, queries: &mut [f64]) -> Tally
         requires { ⌜ mostCoordinates ≤ length (now queries) ⌝ }
         ensures { λ t. ⌜ t ≡ queryTaken self r ⌝ }
-        ensures { λ _. ⌜ now (queries .exit) ≡ sets (now (queries .entry)) (self .queries * 3) (added (queryWhy self r) (fieldsOf r)) ⌝ }
+        ensures { λ _. ⌜ new queries ≡ sets (old queries) (self .queries * 3) (added (queryWhy self r) (fieldsOf r)) ⌝ }
     {
         let w = why(r.clear, self.queries, places::limits::MOST_QUERIES);
         if w == 0 {
@@ -201,8 +202,8 @@ impl Tally {
     ) -> Tally
         requires { ⌜ Sized (now coords) (now corners) (now ends) (now queries) ⌝ }
         requires { ⌜ Fits self ⌝ }
-        ensures { λ t. ⌜ Tallied self r (now (coords .entry)) (now (corners .entry)) (now (ends .entry)) (now (queries .entry)) t (now
-            (coords .exit)) (now (corners .exit)) (now (ends .exit)) (now (queries .exit)) ⌝ }
+        ensures { λ t. ⌜ Tallied self r (old coords) (old corners) (old ends) (old queries)
+            t (new coords) (new corners) (new ends) (new queries) ⌝ }
     {
         if self.refusal != 0 {
             return self;

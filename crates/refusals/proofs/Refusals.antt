@@ -1,4 +1,5 @@
--- The first of two refusals; the size of a list, told by how many numbers it has; and what is known of lists that are not refused.
+-- The first of two refusals and of the rows of a definition, told by the code's tests; the size of a list, told by how many numbers it
+-- has; and what is known of lists and cells that are not refused, for those who go on with them.
 use mathlib.Core.Path.{_≡_, refl, sym, _∙_}
 use mathlib.Core.Logic.{_≢_}
 use mathlib.Core.Bool.{Bool, true, false, not, _&&_, _||_}
@@ -53,6 +54,32 @@ module _ (first rest : ℕ) where
       go true t z = (eqb-true first 0 t, z)
       go false t z = absurd (eqb-false first 0 t z)
 
+-- ---- a row of a definition, told by the answer b of the code's test
+module _ {b applies : Bool} (n : ℕ) (rows : List (ℕ × Bool)) (asked : b ≡ applies) where
+  -- a test that holds gives its row's number
+  pub row-yes : b ≡ true → n ≡ firstRow ((n, applies) ∷ rows)
+  row-yes t = row-applies n rows (sym asked ∙ t)
+
+  -- one that fails leaves it to the rows after it
+  pub row-no : {r : ℕ} → b ≡ false → r ≡ firstRow rows → r ≡ firstRow ((n, applies) ∷ rows)
+  row-no t q = row-passed n rows (sym asked ∙ t) q
+
+-- a size that is judged before all else is row 1 by itself
+module _ {b applies : Bool} (rest : ℕ) (asked : b ≡ applies) where
+  pub size-yes : b ≡ true → 1 ≡ firstRefusal (firstRow ((1, applies) ∷ [])) rest
+  size-yes t = or-found rest (row-yes 1 [] asked t) (λ z. absurd (omega arith))
+
+  pub size-no : {r : ℕ} → b ≡ false → r ≡ rest → r ≡ firstRefusal (firstRow ((1, applies) ∷ [])) rest
+  size-no t e = or-other rest (row-no 1 [] asked t no-row) refl e
+
+-- a row that asks for either of two: the first decides where it holds, else the second does
+module _ {a x : Bool} (y : Bool) (asked : a ≡ x) where
+  pub either-first : a ≡ true → x || y ≡ true
+  either-first t = rw (← asked, t)
+
+  pub either-second : {z : Bool} → a ≡ false → y ≡ z → x || y ≡ z
+  either-second t u = rw (← asked, t) u
+
 -- a row that stands alone
 pub one-row : (n : ℕ) (applies : Bool) → 1 ≤ n → firstRow ((n, applies) ∷ []) ≡ 0 → applies ≡ false
 one-row n applies h e = row-zero n [] applies h e .0
@@ -94,7 +121,8 @@ list-counted coords e = counted coords (row-zero 1 ((2, numberRefused coords) �
 pub plane-counted : (ps : List Float) → planeRefusal ps ≡ 0 → (length ps % 2 ≡ 0) × (length ps ≤ 1024)
 unfolding planeRefusal
 plane-counted ps e =
-    let known = parts-known (length ps) 2 512 (pairs-are ps ∙ row-zero 1 ((2, numberRefused ps) ∷ []) (pairsRefused ps) (omega arith) e .0) in
+    let sized = row-zero 1 ((2, numberRefused ps) ∷ []) (pairsRefused ps) (omega arith) e .0 in
+    let known = parts-known (length ps) 2 512 (pairs-are ps ∙ sized) in
     (known .0, omega (arith, known .0, known .1))
 
 -- ---- a cell and its query points
@@ -107,7 +135,9 @@ module _ (coords : List Float) (corners ends : List ℕ) (queries : List Float) 
   survey-sound = sound coords corners ends queries [] (survey-zero .1)
 
   pub few-query-points : length (verticesOf queries) ≤ 256
-  few-query-points = rw (length-threes queries) (parts-known (length queries) 3 256 (queries-are queries ∙ one-row 1 _ (omega arith) (survey-zero .0)) .1)
+  few-query-points =
+      let sized = one-row 1 _ (omega arith) (survey-zero .0) in
+      rw (length-threes queries) (parts-known (length queries) 3 256 (queries-are queries ∙ sized) .1)
 
   pub few-queries : length queries ≤ 770
   few-queries = omega (arith, few-query-points, length-threes queries)
@@ -116,14 +146,16 @@ module _ (coords : List Float) (corners ends : List ℕ) (queries : List Float) 
 stray-no : (n c : ℕ) → not (eqb c faceEnd) && leb n c ≡ false → c ≢ faceEnd → c < n
 stray-no n c e h = leb-false n c (rw (ne-eqb c faceEnd h) at e)
 
-pub phed-known : (coords : List Float) (cs : List ℕ) (p : List Float) → phedRefusal coords cs p ≡ 0 → MarkedInside (verticesOf coords) cs × (length cs ≤ 2304)
+pub phed-known : (coords : List Float) (cs : List ℕ) (p : List Float) → phedRefusal coords cs p ≡ 0
+    → MarkedInside (verticesOf coords) cs × (length cs ≤ 2304)
 unfolding phedRefusal
 phed-known coords cs p e =
+    let n = length (verticesOf coords) in
     let one = row-zero 1 _ (pointsRefused coords || ltb 2304 (length cs)) (omega arith) e in
     let two = row-zero 2 _ (numberRefused coords || numberRefused p) (omega arith) (one .1) in
-    let four = row-zero 4 [] (anyOf (strays (length (verticesOf coords))) cs) (omega arith) (two .1) in
+    let four = row-zero 4 [] (anyOf (strays n) cs) (omega arith) (two .1) in
     let size = or-none (pointsRefused coords) (ltb 2304 (length cs)) (one .0) in (
-      record { holds = λ k h. stray-no (length (verticesOf coords)) (getD cs k 0) (any-none (strays (length (verticesOf coords))) 0 cs (four .0) k h) },
+      record { holds = λ k h. stray-no n (getD cs k 0) (any-none (strays n) 0 cs (four .0) k h) },
       ltb-false 2304 _ (size .1),
     )
 
@@ -172,7 +204,8 @@ asked-face coords corners ends k z =
     record { ordered = s .ordered; there = there; inside = face .0; few = face .1 }
 
 -- a face of a cell that has no empty face
-pub face-solid : (corners ends : List ℕ) (k : ℕ) → emptyRefused corners ends ≡ false → k < length ends → 0 < length (getD (facesOf corners ends) k [])
+pub face-solid : (corners ends : List ℕ) (k : ℕ) → emptyRefused corners ends ≡ false → k < length ends
+    → 0 < length (getD (facesOf corners ends) k [])
 unfolding emptyRefused
 face-solid corners ends k e h = has-corner _ (any-none isEmpty [] (facesOf corners ends) e k (rw (length-faces corners ends) h))
 
@@ -182,7 +215,8 @@ pub record FacesKnown (coords : List Float) (corners ends asked : List ℕ) : Ty
   pub sound : Sound coords corners ends
   pub solid : emptyRefused corners ends ≡ false
 
-pub faces-known : (coords : List Float) (corners ends asked : List ℕ) → facesRefusal coords corners ends asked ≡ 0 → FacesKnown coords corners ends asked
+pub faces-known : (coords : List Float) (corners ends asked : List ℕ) → facesRefusal coords corners ends asked ≡ 0
+    → FacesKnown coords corners ends asked
 unfolding facesRefusal
 faces-known coords corners ends asked e =
     let two = or-zero _ _ e in
@@ -195,11 +229,17 @@ pub record SolidFace (coords : List Float) (corners ends : List ℕ) (k : ℕ) :
   pub inside : Inside (verticesOf coords) (getD (facesOf corners ends) k [])
   pub some : 0 < length (getD (facesOf corners ends) k [])
 
-pub face-known : (coords : List Float) (corners ends : List ℕ) (k : ℕ) → facesRefusal coords corners ends (k ∷ []) ≡ 0 → SolidFace coords corners ends k
+pub face-known : (coords : List Float) (corners ends : List ℕ) (k : ℕ) → facesRefusal coords corners ends (k ∷ []) ≡ 0
+    → SolidFace coords corners ends k
 face-known coords corners ends k e =
     let s = faces-known coords corners ends (k ∷ []) e in
     let h = asked-known coords corners ends [] (k ∷ []) (s .cell) .holds 0 (omega arith) in
-    record { ordered = s .sound .ordered; there = h; inside = face-sound coords corners ends k (s .sound) h .0; some = face-solid corners ends k (s .solid) h }
+    record {
+      ordered = s .sound .ordered;
+      there = h;
+      inside = face-sound coords corners ends k (s .sound) h .0;
+      some = face-solid corners ends k (s .solid) h;
+    }
 
 -- ---- clipping and the overlap
 works-known : (first second : List Float) → worksRefusal first second ≡ 0 → (length first ≤ 3072) × (length second ≤ 3072)
@@ -218,8 +258,8 @@ pub record Clippable (coords : List Float) (corners ends : List ℕ) (k : ℕ) (
   pub first-few : length first ≤ 3072
   pub second-few : length second ≤ 3072
 
-pub clip-known : (coords : List Float) (corners ends : List ℕ) (k : ℕ) (planes first second : List Float) → clipRefusal coords corners ends k planes first second ≡ 0
-    → Clippable coords corners ends k planes first second
+pub clip-known : (coords : List Float) (corners ends : List ℕ) (k : ℕ) (planes first second : List Float)
+    → clipRefusal coords corners ends k planes first second ≡ 0 → Clippable coords corners ends k planes first second
 unfolding clipRefusal
 clip-known coords corners ends k planes first second e =
     let size = or-zero _ _ e in
@@ -258,14 +298,16 @@ planar-known subject clip first second e =
     }
 
 -- what is known where the overlap of two cells is not refused
-pub record Overlapping (coords : List Float) (corners ends : List ℕ) (coords2 : List Float) (corners2 ends2 : List ℕ) (first second : List Float) : Type 0 where
+pub record Overlapping (coords : List Float) (corners ends : List ℕ) (coords2 : List Float) (corners2 ends2 : List ℕ)
+    (first second : List Float) : Type 0 where
   pub one : FacesKnown coords corners ends []
   pub other : FacesKnown coords2 corners2 ends2 []
   pub first-few : length first ≤ 3072
   pub second-few : length second ≤ 3072
 
-pub overlap-known : (coords : List Float) (corners ends : List ℕ) (coords2 : List Float) (corners2 ends2 : List ℕ) (first second : List Float)
-    → overlapRefusal coords corners ends coords2 corners2 ends2 first second ≡ 0 → Overlapping coords corners ends coords2 corners2 ends2 first second
+pub overlap-known : (coords : List Float) (corners ends : List ℕ) (coords2 : List Float) (corners2 ends2 : List ℕ)
+    (first second : List Float) → overlapRefusal coords corners ends coords2 corners2 ends2 first second ≡ 0
+    → Overlapping coords corners ends coords2 corners2 ends2 first second
 unfolding overlapRefusal
 overlap-known coords corners ends coords2 corners2 ends2 first second e =
     let lists = or-zero _ _ e in

@@ -6,7 +6,8 @@ ghost use lib.Dec.{ltb};
 ghost use Rattle.places.specs.Lent.{old};
 ghost use Rattle.places.specs.Loops.{anyOf};
 ghost use Rattle.refusals.specs.Refusals.{listRefusal, pairsRefused, planeRefusal, cellRefusal, containsRefusal, facesRefusal};
-ghost use Rattle.refusals.specs.Refusals.{faceRefusal, roomRefused, turnFacesRefusal, strays, phedRefusal, queriesRefused, surveyRefusal};
+ghost use Rattle.refusals.specs.Refusals.{faceRefusal, roomRefused, turnFacesRefusal, strays, phedRefusal, queriesRefused};
+ghost use Rattle.refusals.specs.Refusals.{surveyRefusal};
 ghost use Rattle.refusals.specs.Refusals.{planesRefused, workRefused, worksRefusal, clipRefusal, planarRefusal, overlapRefusal};
 ghost use Rattle.refusals.specs.Steps.{partsRefused};
 

@@ -1,17 +1,17 @@
--- Records one after the other: those of the front are records of the whole, and those behind it are records of the rest.
+-- Bytes cut into records, and records one after the other: a record is its own 32 bytes, so the records of some bytes are those of their
+-- front and then those of the rest, and what they make of the cell and print is put together likewise.
 use mathlib.Core.Path.{_≡_, refl, sym, ap, _∙_}
-use mathlib.Core.List.{List, _++_, append-assoc, append-nil}
+use mathlib.Core.List.{List, [], _∷_, _++_, append-assoc, append-nil}
 use Prim.Native.Nat.{ℕ, zero, suc, _+_, _-_, _*_, _≤_}
-use native.Mathlib.Nat.{add-assoc, add-zero, add-suc}
+use native.Mathlib.Nat.{add-assoc, add-zero, zero-add, suc-add}
 use native.Mathlib.Omega.{arith}
-use lib.ListN.{length, drop, List·getD-append}
-use lib.Seq.{getD-drop}
+use lib.ListN.{length, drop, List·getD-append, length-drop}
+use lib.Seq.{getD-drop, drop-append-le, drop-drop}
 use Rattle.records.specs.declared.bytes.Rec.{Rec}
 use Rattle.records.specs.Bytes.{wordOf, clearOf, recordOf}
-use Rattle.report.specs.Report.{Held, saysOf, after, linesOf, recordTaken}
+use Rattle.report.specs.Report.{Held, saysOf, recordTaken, after, linesOf, cutOf, Lent, storedOf, storedAfter}
 
 -- ---- a record is its own 32 bytes
-
 word-front : (s t : List ℕ) (at : ℕ) → at + 8 ≤ length s → wordOf (s ++ t) at ≡ wordOf s at
 unfolding wordOf
 word-front s t at h =
@@ -70,46 +70,72 @@ record-drop s m at =
       add-assoc m at 24,
     )
 
--- ---- k records of the front are k records of the whole
+-- ---- the bytes cut into records
+alike : {r r′ : Rec} {l m : List Rec} → r ≡ r′ → l ≡ m → r ∷ l ≡ r′ ∷ m
+alike e f = cc
 
-fewer : (k n : ℕ) → suc k * 32 ≤ n → k * 32 ≤ n
-fewer k n l = omega arith
+fewer : (n k : ℕ) → suc n * 32 ≤ k → n * 32 ≤ k - 32
+fewer n k l = omega arith
 
-last : (k n : ℕ) → suc k * 32 ≤ n → k * 32 + 32 ≤ n
-last k n l = omega arith
+one : (n k : ℕ) → suc n * 32 ≤ k → 32 ≤ k
+one n k l = omega arith
 
-one-same : {h h′ : Held} {r r′ : Rec} → h ≡ h′ → r ≡ r′ → recordTaken h r ≡ recordTaken h′ r′
-one-same e f = cc
+-- the first n records of the front are those of the whole
+pub cut-front : (n : ℕ) (s t : List ℕ) → n * 32 ≤ length s → cutOf n (s ++ t) ≡ cutOf n s
+unfolding cutOf
+cut-front zero s t l = refl
+cut-front (suc n) s t l =
+    let h = one n (length s) l in
+    alike (record-front s t 0 h)
+    (ap (cutOf n) (drop-append-le 32 s t h) ∙ cut-front n (drop 32 s) t (rw (length-drop 32 s) (fewer n (length s) l)))
 
-says-same : {h h′ : Held} {r r′ : Rec} → h ≡ h′ → r ≡ r′ → saysOf h r ≡ saysOf h′ r′
-says-same e f = cc
+-- the records behind the first a are those of the rest
+pub cut-add : (a b : ℕ) (s : List ℕ) → cutOf (a + b) s ≡ cutOf a s ++ cutOf b (drop (a * 32) s)
+unfolding cutOf
+cut-add zero b s = ap (λ (n : ℕ). cutOf n s) (zero-add b)
+cut-add (suc a) b s =
+    let next : 32 + a * 32 ≡ suc a * 32 = omega arith in
+    ap (λ (n : ℕ). cutOf n s) (suc-add a b)
+    ∙ alike refl
+    (cut-add a b (drop 32 s)
+    ∙ ap (λ (l : List ℕ). cutOf a (drop 32 s) ++ cutOf b l) (drop-drop (a * 32) 32 s ∙ ap (λ (n : ℕ). drop n s) next))
 
-both : {a b c d : List ℕ} → a ≡ c → b ≡ d → a ++ b ≡ c ++ d
-both e f = cc
-
-pub after-front : (h : Held) (s t : List ℕ) (k : ℕ) → k * 32 ≤ length s → after k h (s ++ t) ≡ after k h s
-unfolding after
-after-front h s t zero l = refl
-after-front h s t (suc k) l = one-same (after-front h s t k (fewer k (length s) l)) (record-front s t (k * 32) (last k (length s) l))
-
-pub lines-front : (h : Held) (s t : List ℕ) (k : ℕ) → k * 32 ≤ length s → linesOf k h (s ++ t) ≡ linesOf k h s
-unfolding linesOf
-lines-front h s t zero l = refl
-lines-front h s t (suc k) l =
-    both (lines-front h s t k (fewer k (length s) l))
-    (says-same (after-front h s t k (fewer k (length s) l)) (record-front s t (k * 32) (last k (length s) l)))
+-- one record more is the one at its place
+pub cut-more : (s : List ℕ) (k : ℕ) → cutOf (k + 1) s ≡ cutOf k s ++ (recordOf s (k * 32) ∷ [])
+unfolding cutOf
+cut-more s k = cut-add k 1 s ∙ ap (λ (r : Rec). cutOf k s ++ (r ∷ [])) (record-drop s (k * 32) 0 ∙ ap (recordOf s) (add-zero (k * 32)))
 
 -- ---- records one after the other
-
-place : (s : List ℕ) (a b : ℕ) → recordOf s ((a + b) * 32) ≡ recordOf (drop (a * 32) s) (b * 32)
-place s a b = sym (record-drop s (a * 32) (b * 32) ∙ ap (recordOf s) (omega arith))
-
-pub after-add : (h : Held) (s : List ℕ) (a b : ℕ) → after (a + b) h s ≡ after b (after a h s) (drop (a * 32) s)
+pub after-append : (h : Held) (l m : List Rec) → after h (l ++ m) ≡ after (after h l) m
 unfolding after
-after-add h s a zero = ap (λ (k : ℕ). after k h s) (add-zero a)
-after-add h s a (suc b) = rw (add-suc a b, place s a b, after-add h s a b)
+after-append h [] m = refl
+after-append h (r ∷ l) m = after-append (recordTaken h r) l m
 
-pub lines-add : (h : Held) (s : List ℕ) (a b : ℕ) → linesOf (a + b) h s ≡ linesOf a h s ++ linesOf b (after a h s) (drop (a * 32) s)
+pub lines-append : (h : Held) (l m : List Rec) → linesOf h (l ++ m) ≡ linesOf h l ++ linesOf (after h l) m
+unfolding linesOf after
+lines-append h [] m = refl
+lines-append h (r ∷ l) m =
+    ap (λ (x : List ℕ). saysOf h r ++ x) (lines-append (recordTaken h r) l m) ∙ sym (append-assoc (saysOf h r) _ _)
+
+pub stored-append : (h : Held) (x : Lent) (l m : List Rec) → storedAfter h x (l ++ m) ≡ storedAfter (after h l) (storedAfter h x l) m
+unfolding storedAfter after
+stored-append h x [] m = refl
+stored-append h x (r ∷ l) m = stored-append (recordTaken h r) (storedOf (h .tally) x r) l m
+
+-- ---- one record more: the cell, the lines, the lent lists
+pub after-more : (h : Held) (s : List ℕ) (k : ℕ) → after h (cutOf (k + 1) s) ≡ recordTaken (after h (cutOf k s)) (recordOf s (k * 32))
+unfolding after
+after-more h s k = ap (after h) (cut-more s k) ∙ after-append h (cutOf k s) (recordOf s (k * 32) ∷ [])
+
+pub lines-more : (h : Held) (s : List ℕ) (k : ℕ)
+    → linesOf h (cutOf (k + 1) s) ≡ linesOf h (cutOf k s) ++ saysOf (after h (cutOf k s)) (recordOf s (k * 32))
 unfolding linesOf
-lines-add h s a zero = rw (add-zero a, append-nil)
-lines-add h s a (suc b) = rw (add-suc a b, place s a b, after-add h s a b, lines-add h s a b, append-assoc)
+lines-more h s k =
+    ap (linesOf h) (cut-more s k)
+    ∙ lines-append h (cutOf k s) (recordOf s (k * 32) ∷ [])
+    ∙ ap (λ (x : List ℕ). linesOf h (cutOf k s) ++ x) (append-nil (saysOf (after h (cutOf k s)) (recordOf s (k * 32))))
+
+pub stored-more : (h : Held) (x : Lent) (s : List ℕ) (k : ℕ)
+    → storedAfter h x (cutOf (k + 1) s) ≡ storedOf (after h (cutOf k s) .tally) (storedAfter h x (cutOf k s)) (recordOf s (k * 32))
+unfolding storedAfter
+stored-more h x s k = ap (storedAfter h x) (cut-more s k) ∙ stored-append h x (cutOf k s) (recordOf s (k * 32) ∷ [])

@@ -1,16 +1,13 @@
--- Bytes moved to the front, one after the other.
-use mathlib.Core.Path.{_≡_, refl, sym, ap, _∙_}
-use mathlib.Core.List.{List, [], _∷_, _++_}
-use Prim.Native.Nat.{ℕ, zero, suc, _+_, _-_, _<_, _≤_}
+-- Bytes moved to the front one after the other, for the loop of `stream::to_front`: each is read where no store has reached yet.
+use mathlib.Core.Path.{_≡_, sym, ap, _∙_}
+use mathlib.Core.List.{List, _++_}
+use Prim.Native.Nat.{ℕ, suc, _+_, _-_, _<_}
 use native.Mathlib.Nat.{add-comm}
 use native.Mathlib.Numerals.{add-one}
 use native.Mathlib.Omega.{arith}
-use lib.ListN.{length, getD, take, drop, set, length-drop, length-take, length-append}
+use lib.ListN.{length, getD, take, drop, set, length-drop}
 use lib.Seq.{take-suc, drop-cons, set-at, drop-at, getD-drop, append-snoc, length-take-le}
 use Rattle.report.specs.Report.{movedOf}
-
-pub moved-length : (b : List ℕ) (from n : ℕ) → from + n ≤ length b → length (movedOf b from n) ≡ length b
-moved-length b from n h = simp (length-append, length-take, length-drop) (omega arith)
 
 moved-read : (b : List ℕ) (from i : ℕ) → from + i < length b → getD (movedOf b from i) (from + i) 0 ≡ getD (drop from b) i 0
 moved-read b from i h =
@@ -23,7 +20,8 @@ moved-read b from i h =
     ∙ ap (λ (k : ℕ). getD b k 0) (add-comm i from)
     ∙ sym (getD-drop from b i 0)
 
-pub moved-more : (b : List ℕ) (from i : ℕ) → from + i < length b → set (movedOf b from i) i (getD (movedOf b from i) (from + i) 0) ≡ movedOf b from (i + 1)
+pub moved-more : (b : List ℕ) (from i : ℕ) → from + i < length b
+    → set (movedOf b from i) i (getD (movedOf b from i) (from + i) 0) ≡ movedOf b from (i + 1)
 moved-more b from i h =
     let s = drop from b in
     let is : i < length s = simp length-drop (omega arith) in

@@ -11,10 +11,10 @@ use Rattle.places.specs.Stored.{joined}
 use Rattle.lines.specs.Text.{Put}
 use Rattle.records.specs.declared.tally.Tally.{Tally}
 use Rattle.records.specs.Tally.{newOf}
-use Rattle.report.specs.Report.{Held, heldOf, freshOf, after, linesOf, tailOf, reportFrom, reportOf, movedOf}
-use Rattle.report.specs.Split.{wholeOf, restOf, printedFrom, AnySplit, OneReport, Reached, Starts, OneMore, AtTheEnd}
-use Rattle.report.specs.Split.{Takes, Feeds, Finishes, WentOn, Running}
-use Rattle.report.proofs.Joining.{after-front, lines-front, after-add, lines-add}
+use Rattle.report.specs.Report.{Held, heldOf, freshOf, after, linesOf, cutOf, recordsOf, tailOf, reportFrom, reportOf, movedOf}
+use Rattle.report.specs.Split.{wholeOf, restOf, printedFrom, AnySplit, OneReport, Reached, Starts, OneMore, AtTheEnd, Takes}
+use Rattle.report.specs.Split.{Feeds, Finishes, WentOn, Running}
+use Rattle.report.proofs.Joining.{cut-front, cut-add, after-append, lines-append}
 use Rattle.report.proofs.Taken.{front}
 
 -- ---- all bytes, from the bytes given and one more piece
@@ -42,32 +42,23 @@ more-rest g s = at (wholeOf (g ++ s)) (wholeOf (restOf g ++ s)) (more-whole g s)
     at : (n b : ℕ) → n ≡ wholeOf g + b → drop (n * 32) (g ++ s) ≡ drop (b * 32) (restOf g ++ s)
     at n b e = rw (e, times (wholeOf g) b, ← drop-drop (b * 32) (wholeOf g * 32) (g ++ s), behind g s)
 
-more-held : (h : Held) (g s : List ℕ)
-    → after (wholeOf (g ++ s)) h (g ++ s) ≡ after (wholeOf (restOf g ++ s)) (after (wholeOf g) h g) (restOf g ++ s)
-more-held h g s = at (wholeOf (g ++ s)) (wholeOf (restOf g ++ s)) (more-whole g s)
-  where
-    at : (n b : ℕ) → n ≡ wholeOf g + b → after n h (g ++ s) ≡ after b (after (wholeOf g) h g) (restOf g ++ s)
-    at n b e = rw (e, after-add h (g ++ s) (wholeOf g) b, behind g s, after-front h g s (wholeOf g) (whole (length g)))
+-- the whole records of all bytes are those of the bytes given, and then those of what waits with the piece behind it
+more-records : (g s : List ℕ) → recordsOf (g ++ s) ≡ recordsOf g ++ recordsOf (restOf g ++ s)
+more-records g s =
+    ap (λ (n : ℕ). cutOf n (g ++ s)) (more-whole g s)
+    ∙ cut-add (wholeOf g) (wholeOf (restOf g ++ s)) (g ++ s)
+    ∙ rw (cut-front (wholeOf g) g s (whole (length g)), behind g s)
+
+more-held : (h : Held) (g s : List ℕ) → after h (recordsOf (g ++ s)) ≡ after (after h (recordsOf g)) (recordsOf (restOf g ++ s))
+more-held h g s = ap (after h) (more-records g s) ∙ after-append h (recordsOf g) (recordsOf (restOf g ++ s))
 
 more-lines : (h : Held) (g s : List ℕ)
-    → linesOf (wholeOf (g ++ s)) h (g ++ s)
-    ≡ linesOf (wholeOf g) h g ++ linesOf (wholeOf (restOf g ++ s)) (after (wholeOf g) h g) (restOf g ++ s)
-more-lines h g s = at (wholeOf (g ++ s)) (wholeOf (restOf g ++ s)) (more-whole g s)
-  where
-    at : (n b : ℕ) → n ≡ wholeOf g + b
-        → linesOf n h (g ++ s) ≡ linesOf (wholeOf g) h g ++ linesOf b (after (wholeOf g) h g) (restOf g ++ s)
-    at n b e =
-        rw (
-          e,
-          lines-add h (g ++ s) (wholeOf g) b,
-          behind g s,
-          after-front h g s (wholeOf g) (whole (length g)),
-          lines-front h g s (wholeOf g) (whole (length g)),
-        )
+    → linesOf h (recordsOf (g ++ s)) ≡ linesOf h (recordsOf g) ++ linesOf (after h (recordsOf g)) (recordsOf (restOf g ++ s))
+more-lines h g s = ap (linesOf h) (more-records g s) ∙ lines-append h (recordsOf g) (recordsOf (restOf g ++ s))
 
 -- ---- a run on its way: its start, one more piece, its end
 pub starts : Starts
-unfolding after linesOf
+unfolding cutOf after linesOf
 starts = record { held = refl; waits = refl; lines = refl }
 
 pub one-more : OneMore
@@ -102,7 +93,7 @@ pub one-report : OneReport
 one-report ss ts e = any-split ss ∙ ap reportOf e ∙ sym (any-split ts)
 
 -- ---- the contracts
-pub feeds : {h h′ : Held} {b w′ p : List ℕ} → h′ ≡ after (wholeOf b) h b → w′ ≡ restOf b → p ≡ linesOf (wholeOf b) h b → Feeds h b h′ w′ p
+pub feeds : {h h′ : Held} {b w′ p : List ℕ} → h′ ≡ after h (recordsOf b) → w′ ≡ restOf b → p ≡ linesOf h (recordsOf b) → Feeds h b h′ w′ p
 feeds e f g = record { takes = λ w s c. rw (e, f, g, c) (one-more _ w s) }
 
 pub finishes : (t : Tally) (left : ℕ) {p : List ℕ} → p ≡ tailOf (t .begun) left → Finishes t left p

@@ -1,6 +1,6 @@
--- The report: what each record makes of the cell so far, and the lines for a list of bytes.
+-- The report: the bytes are cut into records, each record makes something of the cell so far, and one that ends a cell prints its line.
 use Prim.Native.Nat.{ℕ, zero, suc, _+_, _-_, _*_, _/_}
-use mathlib.Core.List.{List, [], _++_}
+use mathlib.Core.List.{List, [], _∷_, _++_}
 use mathlib.Core.Bool.{Bool}
 use lib.ListN.{length, take, drop}
 use lib.Seq.{sets}
@@ -59,15 +59,25 @@ recordTaken h r = pick (eqb (r .kind) 4) (freshOf (h .tally .number + 1)) (grown
 unfoldable pub saysOf : Held → Rec → List ℕ
 saysOf h r = pick (eqb (r .kind) 4) (lineOf (grownOf h r)) []
 
--- the cell after the first k records of s
-unfoldable pub after : ℕ → Held → List ℕ → Held
-after zero h s = h
-after (suc k) h s = recordTaken (after k h s) (recordOf s (k * 32))
+-- the cell after these records
+unfoldable pub after : Held → List Rec → Held
+after h [] = h
+after h (r ∷ rs) = after (recordTaken h r) rs
 
--- the lines of the first k records of s
-unfoldable pub linesOf : ℕ → Held → List ℕ → List ℕ
-linesOf zero h s = []
-linesOf (suc k) h s = linesOf k h s ++ saysOf (after k h s) (recordOf s (k * 32))
+-- the lines that these records print
+unfoldable pub linesOf : Held → List Rec → List ℕ
+linesOf h [] = []
+linesOf h (r ∷ rs) = saysOf h r ++ linesOf (recordTaken h r) rs
+
+-- ---- the bytes
+-- the first n records of the bytes s, of 32 bytes each
+unfoldable pub cutOf : ℕ → List ℕ → List Rec
+cutOf zero s = []
+cutOf (suc n) s = recordOf s 0 ∷ cutOf n (drop 32 s)
+
+-- all whole records of the bytes s
+abbrev pub recordsOf : List ℕ → List Rec
+recordsOf s = cutOf (length s / 32) s
 
 -- the end of the input: bytes after the last cell end are refused, be they whole records or not
 abbrev pub tailOf : Bool → ℕ → List ℕ
@@ -75,7 +85,7 @@ tailOf begun left = pick begun tailLine (pick (eqb left 0) [] tailLine)
 
 -- the lines for the bytes s, where the cell so far is h
 unfoldable pub reportFrom : Held → List ℕ → List ℕ
-reportFrom h s = linesOf (length s / 32) h s ++ tailOf (after (length s / 32) h s .tally .begun) (length s - length s / 32 * 32)
+reportFrom h s = linesOf h (recordsOf s) ++ tailOf (after h (recordsOf s) .tally .begun) (length s - length s / 32 * 32)
 
 -- the lines for these bytes
 abbrev pub reportOf : List ℕ → List ℕ
@@ -84,7 +94,14 @@ reportOf s = reportFrom (freshOf 1) s
 -- ---- the lists that are lent
 -- the tally, and the part of each lent list that its records have filled
 abbrev pub heldOf : Tally → List Float → List ℕ → List ℕ → List Float → Held
-heldOf t a b c d = record { tally = t; coords = take (t .verts * 3) a; corners = take (t .corners) b; ends = take (t .faces) c; queries = take (t .queries * 3) d }
+heldOf t a b c d =
+    record {
+      tally = t;
+      coords = take (t .verts * 3) a;
+      corners = take (t .corners) b;
+      ends = take (t .faces) c;
+      queries = take (t .queries * 3) d;
+    }
 
 -- the lent lists, whole
 pub record Lent : Type 0 where
@@ -106,10 +123,10 @@ storedOf t l r =
       queries = sets (l .queries) (t .queries * 3) (newQueries t r);
     }
 
--- the lent lists after the first k records of s
-unfoldable pub storedAfter : ℕ → Held → Lent → List ℕ → Lent
-storedAfter zero h l s = l
-storedAfter (suc k) h l s = storedOf (after k h s .tally) (storedAfter k h l s) (recordOf s (k * 32))
+-- the lent lists after these records, where the cell so far is h
+unfoldable pub storedAfter : Held → Lent → List Rec → Lent
+storedAfter h l [] = l
+storedAfter h l (r ∷ rs) = storedAfter (recordTaken h r) (storedOf (h .tally) l r) rs
 
 -- n bytes from a place on moved to the front
 abbrev pub movedOf : List ℕ → ℕ → ℕ → List ℕ

@@ -5,7 +5,7 @@ use mathlib.Core.List.{List, [], _∷_, _++_}
 use lib.ListN.{length, drop}
 use Rattle.places.specs.Stored.{joined}
 use Rattle.records.specs.declared.tally.Tally.{Tally}
-use Rattle.report.specs.Report.{Held, freshOf, after, linesOf, tailOf, reportOf}
+use Rattle.report.specs.Report.{Held, freshOf, after, linesOf, recordsOf, tailOf, reportOf}
 
 -- how many whole records the bytes b have
 abbrev pub wholeOf : List ℕ → ℕ
@@ -19,7 +19,7 @@ restOf b = drop (wholeOf b * 32) b
 -- bytes that wait, the lines of the whole records are printed, and the rest waits; after the last piece comes the tail
 unfoldable pub printedFrom : Held → List ℕ → List (List ℕ) → List ℕ
 printedFrom h w [] = tailOf (h .tally .begun) (length w)
-printedFrom h w (s ∷ ss) = linesOf (wholeOf (w ++ s)) h (w ++ s) ++ printedFrom (after (wholeOf (w ++ s)) h (w ++ s)) (restOf (w ++ s)) ss
+printedFrom h w (s ∷ ss) = linesOf h (recordsOf (w ++ s)) ++ printedFrom (after h (recordsOf (w ++ s))) (restOf (w ++ s)) ss
 
 -- what a run prints that is given these pieces from its start on
 abbrev pub printedOf : List (List ℕ) → List ℕ
@@ -37,9 +37,9 @@ OneReport = (ss ts : List (List ℕ)) → joined ss ≡ joined ts → printedOf 
 -- ---- a run on its way
 -- A run that was given these bytes has come to the cell so far h, the bytes w wait, and these lines are printed.
 pub record Reached (given : List ℕ) (h : Held) (w printed : List ℕ) : Type 0 where
-  pub held : h ≡ after (wholeOf given) (freshOf 1) given
+  pub held : h ≡ after (freshOf 1) (recordsOf given)
   pub waits : w ≡ restOf given
-  pub lines : printed ≡ linesOf (wholeOf given) (freshOf 1) given
+  pub lines : printed ≡ linesOf (freshOf 1) (recordsOf given)
 
 -- Wherever a run has come to h, with the bytes w waiting, the bytes s bring it to h′, with w′ waiting, and p is printed besides.
 pub record Takes (h : Held) (w s : List ℕ) (h′ : Held) (w′ p : List ℕ) : Type 0 where
@@ -52,8 +52,7 @@ Starts = Reached [] (freshOf 1) [] []
 -- One more piece: it is put behind the bytes that wait, the lines of the whole records are printed, and the rest waits.
 abbrev pub OneMore : Type 0
 OneMore =
-    (h : Held) (w s : List ℕ)
-    → Takes h w s (after (wholeOf (w ++ s)) h (w ++ s)) (restOf (w ++ s)) (linesOf (wholeOf (w ++ s)) h (w ++ s))
+    (h : Held) (w s : List ℕ) → Takes h w s (after h (recordsOf (w ++ s))) (restOf (w ++ s)) (linesOf h (recordsOf (w ++ s)))
 
 -- The end: with the tail, the report of all bytes that were given is printed.
 abbrev pub AtTheEnd : Type 0

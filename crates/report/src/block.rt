@@ -2,9 +2,10 @@
 ghost use mathlib.Core.Path.{_≡_};
 ghost use Prim.Native.Nat.{_+_, _*_, _/_, _^_, _≤_, _<_};
 ghost use lib.ListN.{length};
+ghost use Rattle.places.specs.Lent.{old, new};
 ghost use Rattle.lines.specs.Text.{Put};
 ghost use Rattle.records.specs.Tally.{Sized, Fits};
-ghost use Rattle.report.specs.Report.{heldOf, saysOf, after, linesOf, lentOf, storedOf, storedAfter, recordTaken};
+ghost use Rattle.report.specs.Report.{heldOf, saysOf, after, linesOf, recordsOf, lentOf, storedOf, storedAfter, recordTaken};
 use crate::line::put_line;
 use records::bytes::Rec;
 use records::bytes::read_record;
@@ -30,9 +31,11 @@ pub fn take_record(
     requires { ⌜ Sized (now coords) (now corners) (now ends) (now queries) ⌝ }
     requires { ⌜ Fits t ⌝ }
     requires { ⌜ (t .number + 1 < 2 ^ 64) × (at + 256 ≤ length (now out)) ⌝ }
-    ensures { λ d. ⌜ heldOf (d .tally) (now (coords .exit)) (now (corners .exit)) (now (ends .exit)) (now (queries .exit)) ≡ recordTaken (heldOf t (now (coords .entry)) (now (corners .entry)) (now (ends .entry)) (now (queries .entry))) r ⌝ }
-    ensures { λ _. ⌜ lentOf (now (coords .exit)) (now (corners .exit)) (now (ends .exit)) (now (queries .exit)) ≡ storedOf t (lentOf (now (coords .entry)) (now (corners .entry)) (now (ends .entry)) (now (queries .entry))) r ⌝ }
-    ensures { λ d. ⌜ Put (now (out .entry)) at (saysOf (heldOf t (now (coords .entry)) (now (corners .entry)) (now (ends .entry)) (now (queries .entry))) r) (now (out .exit)) (d .made) ⌝ }
+    ensures { λ d. ⌜ heldOf (d .tally) (new coords) (new corners) (new ends) (new queries)
+        ≡ recordTaken (heldOf t (old coords) (old corners) (old ends) (old queries)) r ⌝ }
+    ensures { λ _. ⌜ lentOf (new coords) (new corners) (new ends) (new queries)
+        ≡ storedOf t (lentOf (old coords) (old corners) (old ends) (old queries)) r ⌝ }
+    ensures { λ d. ⌜ Put (old out) at (saysOf (heldOf t (old coords) (old corners) (old ends) (old queries)) r) (new out) (d .made) ⌝ }
     ensures { λ d. ⌜ Fits (d .tally) × (d .tally .number ≤ t .number + 1) × (d .made ≤ at + 256) ⌝ }
 {
     let u = t.take(r, coords, corners, ends, queries);
@@ -59,10 +62,14 @@ pub fn take_block(
     requires { ⌜ Sized (now coords) (now corners) (now ends) (now queries) ⌝ }
     requires { ⌜ Fits start ⌝ }
     requires { ⌜ (start .number + length (now s) < 2 ^ 64) × (256 * (length (now s) / 32) ≤ length (now out)) ⌝ }
-    ensures { λ d. ⌜ heldOf (d .tally) (now (coords .exit)) (now (corners .exit)) (now (ends .exit)) (now (queries .exit)) ≡ after (length (now (s .entry)) / 32) (heldOf start (now (coords .entry)) (now (corners .entry)) (now (ends .entry)) (now (queries .entry))) (now (s .entry)) ⌝ }
-    ensures { λ _. ⌜ lentOf (now (coords .exit)) (now (corners .exit)) (now (ends .exit)) (now (queries .exit)) ≡ storedAfter (length (now (s .entry)) / 32) (heldOf start (now (coords .entry)) (now (corners .entry)) (now (ends .entry)) (now (queries .entry))) (lentOf (now (coords .entry)) (now (corners .entry)) (now (ends .entry)) (now (queries .entry))) (now (s .entry)) ⌝ }
-    ensures { λ d. ⌜ Put (now (out .entry)) 0 (linesOf (length (now (s .entry)) / 32) (heldOf start (now (coords .entry)) (now (corners .entry)) (now (ends .entry)) (now (queries .entry))) (now (s .entry))) (now (out .exit)) (d .made) ⌝ }
-    ensures { λ d. ⌜ Fits (d .tally) × (d .tally .number ≤ start .number + length (now (s .entry)) / 32) × (d .made ≤ length (now (out .entry))) ⌝ }
+    ensures { λ d. ⌜ heldOf (d .tally) (new coords) (new corners) (new ends) (new queries)
+        ≡ after (heldOf start (old coords) (old corners) (old ends) (old queries)) (recordsOf (old s)) ⌝ }
+    ensures { λ _. ⌜ lentOf (new coords) (new corners) (new ends) (new queries)
+        ≡ storedAfter (heldOf start (old coords) (old corners) (old ends) (old queries))
+        (lentOf (old coords) (old corners) (old ends) (old queries)) (recordsOf (old s)) ⌝ }
+    ensures { λ d. ⌜ Put (old out) 0 (linesOf (heldOf start (old coords) (old corners) (old ends) (old queries)) (recordsOf (old s)))
+        (new out) (d .made) ⌝ }
+    ensures { λ d. ⌜ Fits (d .tally) × (d .tally .number ≤ start .number + length (old s) / 32) × (d .made ≤ length (old out)) ⌝ }
 {
     let n = s.len() / 32;
     let mut t = start;

@@ -2,6 +2,7 @@
 ghost use mathlib.Core.Path.{_≡_};
 ghost use Prim.Native.Nat.{_+_, _*_, _≤_};
 ghost use lib.ListN.{length, take};
+ghost use Rattle.places.specs.Lent.{old, new};
 ghost use Rattle.geometry.specs.Survey.{surveyAnswer};
 ghost use Rattle.lines.specs.Text.{Put};
 ghost use Rattle.records.specs.Tally.{Sized, Fits};
@@ -13,7 +14,8 @@ use records::tally::Tally;
 fn found(t: Tally, coords: &[f64], corners: &[u32], ends: &[u32], queries: &[f64]) -> Surveyed
     requires { ⌜ Sized (now coords) (now corners) (now ends) (now queries) ⌝ }
     requires { ⌜ Fits t ⌝ }
-    ensures { λ r. ⌜ r ≡ surveyAnswer (take (t .verts * 3) (now (coords .entry))) (take (t .corners) (now (corners .entry))) (take (t .faces) (now (ends .entry))) (take (t .queries * 3) (now (queries .entry))) ⌝ }
+    ensures { λ r. ⌜ r ≡ surveyAnswer (take (t .verts * 3) (old coords)) (take (t .corners) (old corners))
+        (take (t .faces) (old ends)) (take (t .queries * 3) (old queries)) ⌝ }
 {
     let v = t.verts * 3;
     let c = t.corners;
@@ -35,7 +37,7 @@ pub fn put_line(
     requires { ⌜ Sized (now coords) (now corners) (now ends) (now queries) ⌝ }
     requires { ⌜ Fits t ⌝ }
     requires { ⌜ at + 256 ≤ length (now out) ⌝ }
-    ensures { λ r. ⌜ Put (now (out .entry)) at (lineOf (heldOf t (now (coords .entry)) (now (corners .entry)) (now (ends .entry)) (now (queries .entry)))) (now (out .exit)) r ⌝ }
+    ensures { λ r. ⌜ Put (old out) at (lineOf (heldOf t (old coords) (old corners) (old ends) (old queries))) (new out) r ⌝ }
     ensures { λ r. ⌜ r ≤ at + 256 ⌝ }
 {
     if t.refusal != 0 {

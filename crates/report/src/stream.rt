@@ -2,9 +2,10 @@
 ghost use mathlib.Core.Path.{_≡_};
 ghost use Prim.Native.Nat.{_+_, _-_, _*_, _/_, _^_, _≤_, _<_};
 ghost use lib.ListN.{length, take};
+ghost use Rattle.places.specs.Lent.{old, new};
 ghost use Rattle.lines.specs.Text.{Put};
 ghost use Rattle.records.specs.Tally.{Sized, Fits};
-ghost use Rattle.report.specs.Report.{heldOf, after, linesOf, tailOf, movedOf, lentOf, storedAfter};
+ghost use Rattle.report.specs.Report.{heldOf, after, linesOf, recordsOf, tailOf, movedOf, lentOf, storedAfter};
 ghost use Rattle.report.specs.Split.{Feeds, Finishes};
 use crate::block::take_block;
 use records::tally::Tally;
@@ -12,7 +13,7 @@ use records::tally::Tally;
 // Moves the bytes from `from` up to `to` to the front.
 fn to_front(b: &mut [u8], from: usize, to: usize)
     requires { ⌜ (from ≤ to) × (to ≤ length (now b)) ⌝ }
-    ensures { λ _. ⌜ now (b .exit) ≡ movedOf (now (b .entry)) from (to - from) ⌝ }
+    ensures { λ _. ⌜ new b ≡ movedOf (old b) from (to - from) ⌝ }
 {
     let n = to - from;
     let mut i = 0;
@@ -44,12 +45,19 @@ pub fn feed(
     requires { ⌜ Sized (now coords) (now corners) (now ends) (now queries) ⌝ }
     requires { ⌜ Fits t ⌝ }
     requires { ⌜ (t .number + total < 2 ^ 64) × (256 * (total / 32) ≤ length (now out)) × (total ≤ length (now block)) ⌝ }
-    ensures { λ d. ⌜ heldOf (d .tally) (now (coords .exit)) (now (corners .exit)) (now (ends .exit)) (now (queries .exit)) ≡ after (total / 32) (heldOf t (now (coords .entry)) (now (corners .entry)) (now (ends .entry)) (now (queries .entry))) (take total (now (block .entry))) ⌝ }
-    ensures { λ _. ⌜ lentOf (now (coords .exit)) (now (corners .exit)) (now (ends .exit)) (now (queries .exit)) ≡ storedAfter (total / 32) (heldOf t (now (coords .entry)) (now (corners .entry)) (now (ends .entry)) (now (queries .entry))) (lentOf (now (coords .entry)) (now (corners .entry)) (now (ends .entry)) (now (queries .entry))) (take total (now (block .entry))) ⌝ }
-    ensures { λ d. ⌜ Put (now (out .entry)) 0 (linesOf (total / 32) (heldOf t (now (coords .entry)) (now (corners .entry)) (now (ends .entry)) (now (queries .entry))) (take total (now (block .entry)))) (now (out .exit)) (d .made) ⌝ }
-    ensures { λ d. ⌜ (d .have ≡ total - total / 32 * 32) × (now (block .exit) ≡ movedOf (now (block .entry)) (total / 32 * 32) (total - total / 32 * 32)) ⌝ }
-    ensures { λ d. ⌜ Fits (d .tally) × (d .tally .number ≤ t .number + total / 32) × (d .made ≤ length (now (out .entry))) ⌝ }
-    ensures { λ d. ⌜ Feeds (heldOf t (now (coords .entry)) (now (corners .entry)) (now (ends .entry)) (now (queries .entry))) (take total (now (block .entry))) (heldOf (d .tally) (now (coords .exit)) (now (corners .exit)) (now (ends .exit)) (now (queries .exit))) (take (d .have) (now (block .exit))) (take (d .made) (now (out .exit))) ⌝ }
+    ensures { λ d. ⌜ heldOf (d .tally) (new coords) (new corners) (new ends) (new queries)
+        ≡ after (heldOf t (old coords) (old corners) (old ends) (old queries)) (recordsOf (take total (old block))) ⌝ }
+    ensures { λ _. ⌜ lentOf (new coords) (new corners) (new ends) (new queries)
+        ≡ storedAfter (heldOf t (old coords) (old corners) (old ends) (old queries))
+        (lentOf (old coords) (old corners) (old ends) (old queries)) (recordsOf (take total (old block))) ⌝ }
+    ensures { λ d. ⌜ Put (old out) 0
+        (linesOf (heldOf t (old coords) (old corners) (old ends) (old queries)) (recordsOf (take total (old block))))
+        (new out) (d .made) ⌝ }
+    ensures { λ d. ⌜ (d .have ≡ total - total / 32 * 32)
+        × (new block ≡ movedOf (old block) (total / 32 * 32) (total - total / 32 * 32)) ⌝ }
+    ensures { λ d. ⌜ Fits (d .tally) × (d .tally .number ≤ t .number + total / 32) × (d .made ≤ length (old out)) ⌝ }
+    ensures { λ d. ⌜ Feeds (heldOf t (old coords) (old corners) (old ends) (old queries)) (take total (old block))
+        (heldOf (d .tally) (new coords) (new corners) (new ends) (new queries)) (take (d .have) (new block)) (take (d .made) (new out)) ⌝ }
 {
     let d = take_block(t, &block[..total], coords, corners, ends, queries, out);
     let used = total / 32 * 32;
@@ -64,9 +72,9 @@ pub fn feed(
 // has printed the report of all its bytes (`Finishes`).
 pub fn finish(t: Tally, have: usize, out: &mut [u8]) -> usize
     requires { ⌜ 15 ≤ length (now out) ⌝ }
-    ensures { λ r. ⌜ Put (now (out .entry)) 0 (tailOf (t .begun) have) (now (out .exit)) r ⌝ }
-    ensures { λ r. ⌜ r ≤ length (now (out .entry)) ⌝ }
-    ensures { λ r. ⌜ Finishes t have (take r (now (out .exit))) ⌝ }
+    ensures { λ r. ⌜ Put (old out) 0 (tailOf (t .begun) have) (new out) r ⌝ }
+    ensures { λ r. ⌜ r ≤ length (old out) ⌝ }
+    ensures { λ r. ⌜ Finishes t have (take r (new out)) ⌝ }
 {
     if t.begun {
         return lines::put_tail(out, 0);

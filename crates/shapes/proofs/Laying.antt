@@ -1,4 +1,4 @@
--- Points laid down in a list of numbers, three a point.
+-- A loop that lays points down in a list of numbers, three a point: its start, its next point and its end, for `lay`.
 use mathlib.Core.Path.{_≡_, refl, ap, _∙_}
 use mathlib.Core.List.{List, [], _∷_}
 use Prim.Native.Nat.{ℕ, zero, suc, _+_, _*_, _/_, _<_, _≤_}
@@ -18,7 +18,8 @@ module _ {A : Type 0} {ps : List (List A)} where
   pub lay-start : {l : List A} → length l ≡ length ps * 3 → Laying ps 0 l
   lay-start {l} h = record { long = h; so = fold-start (fill-copy [] ps (inThrees l) (omega (arith, length-threes l))) }
 
-  pub lay-next : {i : ℕ} {l l′ : List A} → Laying ps i l → i < length ps → length l′ ≡ length l → inThrees l′ ≡ set (inThrees l) i (getD ps i []) → Laying ps (i + 1) l′
+  pub lay-next : {i : ℕ} {l l′ : List A} → Laying ps i l → i < length ps → length l′ ≡ length l
+      → inThrees l′ ≡ set (inThrees l) i (getD ps i []) → Laying ps (i + 1) l′
   lay-next p h g e = record { long = g ∙ p .long; so = fold-next (p .so) h e }
 
   pub lay-end : {i : ℕ} {l : List A} → Laying ps i l → length ps ≤ i → inThrees l ≡ ps

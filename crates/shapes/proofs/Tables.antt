@@ -1,4 +1,5 @@
--- The six tables: their numbers are below the corner counts, and the faces of each shape are closed. Each is one test that is computed.
+-- The six tables: their numbers are below the corner counts, so that the code may read by them, and the faces of each shape are closed.
+-- Each is one test that is computed.
 use mathlib.Core.Path.{_≡_, refl, sym, _∙_}
 use mathlib.Core.Bool.{Bool, true, false}
 use mathlib.Core.List.{List, [], _∷_, _++_}
@@ -32,12 +33,15 @@ outside n rows = anyOf (indexRefused n) rows
 pub rows-inside : (n : ℕ) (ps : List Point) (rows : List (List ℕ)) → length ps ≡ n → outside n rows ≡ false → Each [] (Inside ps) rows
 rows-inside n ps rows e q = record { holds = λ k h. all-below (length ps) _ (any-none (indexRefused (length ps)) [] rows (rw e q) k h) }
 
--- of faces, as corners and ends: a cell with these, and with as many coordinates that are all 0, is not refused; which numbers they are does not matter
-pub shape-sound : (n : ℕ) (coords : List Float) (corners ends : List ℕ) → length coords ≡ n → refusalOf (replicate n zero64) corners ends [] [] ≡ 0 → Sound coords corners ends
+-- of faces, as corners and ends: a cell with these, and with as many coordinates that are
+-- all 0, is not refused; which numbers they are does not matter
+pub shape-sound : (n : ℕ) (coords : List Float) (corners ends : List ℕ) → length coords ≡ n
+    → refusalOf (replicate n zero64) corners ends [] [] ≡ 0 → Sound coords corners ends
 shape-sound n coords corners ends e q =
-    let s = sound (replicate n zero64) corners ends [] [] q in
-    let l : length (replicate n zero64) ≡ length coords = length-replicate n zero64 ∙ sym e in
-    let v : length (verticesOf (replicate n zero64)) ≡ length (verticesOf coords) = rw (length-threes (replicate n zero64), length-threes coords, l) in
+    let zeros = replicate n zero64 in
+    let s = sound zeros corners ends [] [] q in
+    let l : length zeros ≡ length coords = length-replicate n zero64 ∙ sym e in
+    let v : length (verticesOf zeros) ≡ length (verticesOf coords) = rw (length-threes zeros, length-threes coords, l) in
     record {
       threes = rw (← l) (s .threes);
       some = rw (← v) (s .some);

@@ -1,4 +1,5 @@
--- Rows worked out from the definitions: the unit cube, the half of it that is a wedge, and the tetrahedron at its corner 0.
+-- Rows worked out from the definitions, which a reader can do by hand: the unit cube, the half of it that is a wedge, and the tetrahedron
+-- at its corner 0.
 use mathlib.Core.Path.{_≡_, refl}
 use mathlib.Core.Bool.{true, false}
 use mathlib.Core.List.{List, [], _∷_}
@@ -7,7 +8,8 @@ use Rattle.floats.specs.F64.{zero64, one64, six64, _/f_}
 use Rattle.flat.specs.Points.{Point, minusOf}
 use Rattle.volume.specs.Volume.{tripleOf}
 use Rattle.inside.proofs.Computed as Inside
-use Rattle.shapes.specs.Shapes.{tetVolumeOf, tetBy, volumeBy, wedgeVolumeOf, hexVolumeOf, tetContainsOf, wedgeContainsOf, hexContainsOf}
+use Rattle.shapes.specs.Shapes.{tetVolumeOf, tetBy, volumeBy, wedgeVolumeOf, hexVolumeOf, tetContainsOf, wedgeContainsOf}
+use Rattle.shapes.specs.Shapes.{hexContainsOf}
 
 -- 'unfolding computed' opens every definition on the way to an answer
 unfoldable pub computed : Unit {0}

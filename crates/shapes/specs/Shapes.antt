@@ -18,7 +18,8 @@ tetVolumeOf a b c d = tripleOf (minusOf 3 b a) (minusOf 3 c a) (minusOf 3 d a) /
 
 -- the volume of the tetrahedron whose corners have the numbers of a row
 unfoldable pub tetBy : List Point → List ℕ → Float
-tetBy ps row = tetVolumeOf (vertexOf ps (getD row 0 0)) (vertexOf ps (getD row 1 0)) (vertexOf ps (getD row 2 0)) (vertexOf ps (getD row 3 0))
+tetBy ps row =
+    tetVolumeOf (vertexOf ps (getD row 0 0)) (vertexOf ps (getD row 1 0)) (vertexOf ps (getD row 2 0)) (vertexOf ps (getD row 3 0))
 
 abbrev pub addTet : List Point → List ℕ → Float → Float
 addTet ps row v = v +f tetBy ps row

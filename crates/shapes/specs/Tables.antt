@@ -1,4 +1,5 @@
--- The six corner tables of the fixed shapes. A row lists corner numbers: a face, taken so that its normal points outward, or one of the tetrahedra that fill a shape.
+-- The six corner tables of the fixed shapes. A row lists corner numbers: a face, taken so that its
+-- normal points outward, or one of the tetrahedra that fill a shape.
 -- A wedge has the triangle 0, 1, 2 opposite the triangle 3, 4, 5; a hexahedron the quadrilateral 0, 1, 2, 3 opposite 4, 5, 6, 7.
 use mathlib.Core.List.{List, [], _∷_}
 use Prim.Native.Nat.{ℕ}

@@ -1,12 +1,15 @@
-// The fixed shapes: the tetrahedron, the wedge and the hexahedron. Their corners are points passed as they are, read through six fixed tables. Any bits are taken, and nothing is refused.
+// The fixed shapes: the tetrahedron, the wedge and the hexahedron. Their corners are points passed as they are, read through six fixed
+// tables. Any bits are taken, and nothing is refused.
 ghost use mathlib.Core.Path.{_≡_};
 ghost use mathlib.Core.List.{[]};
 ghost use Prim.Native.Nat.{ℕ, _*_, _<_};
 ghost use lib.ListN.{length, getD, set};
+ghost use Rattle.places.specs.Lent.{old, new};
 ghost use Rattle.places.specs.Lists.{Each};
 ghost use Rattle.flat.specs.Points.{verticesOf, vertexOf};
 ghost use Rattle.flat.specs.Steps.{Inside};
-ghost use Rattle.shapes.specs.Shapes.{tetVolumeOf, tetBy, volumeBy, wedgeVolumeOf, hexVolumeOf, tetContainsOf, wedgeContainsOf, hexContainsOf};
+ghost use Rattle.shapes.specs.Shapes.{tetVolumeOf, tetBy, volumeBy, wedgeVolumeOf, hexVolumeOf, tetContainsOf, wedgeContainsOf};
+ghost use Rattle.shapes.specs.Shapes.{hexContainsOf};
 
 // The tetrahedra that fill a wedge, and those that fill a hexahedron: four corner numbers each.
 const WEDGE6_TET: [[usize; 4]; 3] = [[0, 1, 2, 3], [1, 2, 3, 4], [2, 3, 4, 5]];
@@ -63,7 +66,8 @@ const HEX8_FACES: [u32; 24] = [
 const HEX8_ENDS: [u32; 6] = [4, 8, 12, 16, 20, 24];
 
 // The signed volume of a tetrahedron: positive where b, c, d go round counterclockwise, seen from the side away from a.
-// Ruled out: a program that answers the magnitude, so that a turned tetrahedron counts as a good one; one that takes the edges from the origin and not from a.
+// Ruled out: a program that answers the magnitude, so that a turned tetrahedron counts as a
+// good one; one that takes the edges from the origin and not from a.
 pub fn tet_volume(a: [f64; 3], b: [f64; 3], c: [f64; 3], d: [f64; 3]) -> f64
     ensures { λ r. ⌜ r ≡ tetVolumeOf a b c d ⌝ }
 {
@@ -74,7 +78,7 @@ pub fn tet_volume(a: [f64; 3], b: [f64; 3], c: [f64; 3], d: [f64; 3]) -> f64
 fn corner(ps: &[[f64; 3]], row: [usize; 4], k: usize) -> [f64; 3]
     requires { ⌜ Inside (now ps) row ⌝ }
     requires { ⌜ k < 4 ⌝ }
-    ensures { λ r. ⌜ r ≡ vertexOf (now (ps .entry)) (getD row k 0) ⌝ }
+    ensures { λ r. ⌜ r ≡ vertexOf (old ps) (getD row k 0) ⌝ }
 {
     let v = row[k];
     ps[v]
@@ -83,7 +87,7 @@ fn corner(ps: &[[f64; 3]], row: [usize; 4], k: usize) -> [f64; 3]
 // The volume of the tetrahedron whose corners have the numbers of a row.
 fn tet_by(ps: &[[f64; 3]], row: [usize; 4]) -> f64
     requires { ⌜ Inside (now ps) row ⌝ }
-    ensures { λ r. ⌜ r ≡ tetBy (now (ps .entry)) row ⌝ }
+    ensures { λ r. ⌜ r ≡ tetBy (old ps) row ⌝ }
 {
     tet_volume(
         corner(ps, row, 0),
@@ -96,7 +100,7 @@ fn tet_by(ps: &[[f64; 3]], row: [usize; 4]) -> f64
 // The volumes of the tetrahedra of a table, added in order.
 fn volume_by(ps: &[[f64; 3]], table: &[[usize; 4]]) -> f64
     requires { ⌜ Each [] (Inside (now ps)) (now table) ⌝ }
-    ensures { λ r. ⌜ r ≡ volumeBy (now (table .entry)) (now (ps .entry)) ⌝ }
+    ensures { λ r. ⌜ r ≡ volumeBy (old table) (old ps) ⌝ }
 {
     let n = table.len();
     let mut v = 0.0;
@@ -110,7 +114,8 @@ fn volume_by(ps: &[[f64; 3]], table: &[[usize; 4]]) -> f64
 }
 
 // The signed volume of a wedge.
-// Ruled out: a program that leaves out the last tetrahedron; one that adds magnitudes, so that the parts of a twisted wedge do not offset each other.
+// Ruled out: a program that leaves out the last tetrahedron; one that adds magnitudes, so
+// that the parts of a twisted wedge do not offset each other.
 pub fn wedge_volume(p: [[f64; 3]; 6]) -> f64
     ensures { λ r. ⌜ r ≡ wedgeVolumeOf p ⌝ }
 {
@@ -118,7 +123,8 @@ pub fn wedge_volume(p: [[f64; 3]; 6]) -> f64
 }
 
 // The signed volume of a hexahedron.
-// Ruled out: a program with one wrong number in a row of the table; one that adds the triple products and divides once, which rounds otherwise.
+// Ruled out: a program with one wrong number in a row of the table; one that adds the
+// triple products and divides once, which rounds otherwise.
 pub fn hex_volume(p: [[f64; 3]; 8]) -> f64
     ensures { λ r. ⌜ r ≡ hexVolumeOf p ⌝ }
 {
@@ -128,7 +134,7 @@ pub fn hex_volume(p: [[f64; 3]; 8]) -> f64
 // Points as the ray test reads them: the numbers of one after those of another.
 fn lay(coords: &mut [f64], ps: &[[f64; 3]])
     requires { ⌜ length (now coords) ≡ length (now ps) * 3 ⌝ }
-    ensures { λ _. ⌜ verticesOf (now (coords .exit)) ≡ now (ps .entry) ⌝ }
+    ensures { λ _. ⌜ verticesOf (new coords) ≡ old ps ⌝ }
 {
     let n = ps.len();
     let mut i = 0;
@@ -150,7 +156,8 @@ pub fn tet_contains(point: [f64; 3], p: [[f64; 3]; 4]) -> bool
 }
 
 // Whether a wedge contains the point: of the two counts, that of its quadrilaterals and that of its triangles, exactly one is odd.
-// Ruled out: a program that asks for one odd count or both, so that a ray through a quadrilateral and a triangle counts as from inside; one that counts the quadrilaterals only.
+// Ruled out: a program that asks for one odd count or both, so that a ray through a quadrilateral and a
+// triangle counts as from inside; one that counts the quadrilaterals only.
 pub fn wedge_contains(point: [f64; 3], p: [[f64; 3]; 6]) -> bool
     ensures { λ r. ⌜ r ≡ wedgeContainsOf point p ⌝ }
 {

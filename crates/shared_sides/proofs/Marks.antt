@@ -11,17 +11,13 @@ use lib.ListN.{length, getD}
 use borrow.Author.Tests.{eq-eqb, ne-eqb, lt-ltb, le-ltb, ltb-true, ltb-false, le-leb, lt-leb}
 use Rattle.places.specs.Loops.{pick}
 use Rattle.places.specs.Ring.{sides}
-use Rattle.exact.specs.Sides.{bit, hits, count, runs}
+use Rattle.exact.specs.Sides.{bit, fromTo, count, runs}
 use Rattle.exact.specs.Facing.{faceBy, reversedBy, occurs, has}
-use Rattle.exact.proofs.Balance.{hits-eq}
+use Rattle.exact.proofs.Balance.{fromTo-eq}
 use Rattle.exact.proofs.Reversed.{sides-back, runs-none, runs-cons, in-range}
 use Rattle.shared_sides.specs.Steps.{markOf, faceOf, downOf, runsUp, markAt, marksIn, marksFrom, Pair}
 
 -- ---- a mark tells its face and its direction
-pub mark-above : (f : ℕ) (down : Bool) → 0 < markOf f down
-mark-above f true = omega arith
-mark-above f false = omega arith
-
 pub face-of-mark : (f : ℕ) (down : Bool) → f < 256 → faceOf (markOf f down) ≡ f
 face-of-mark f true h = rw (le-ltb (f + 257) 257 (omega arith)) (omega arith)
 face-of-mark f false h = rw (lt-ltb (f + 1) 257 (omega arith)) (omega arith)
@@ -72,12 +68,12 @@ given-none false = refl
 
 module _ (p : ℕ → Bool) {i j : ℕ} (apart : i ≢ j) where
   tally-at : (f : ℕ) (e : ℕ × ℕ)
-      → tally p (markAt i j f e) ≡ given (p (markOf f false)) (bit (hits i j e)) + given (p (markOf f true)) (bit (hits j i e))
-  tally-at f e = go (hits i j e) (hits j i e) refl refl
+      → tally p (markAt i j f e) ≡ given (p (markOf f false)) (bit (fromTo i j e)) + given (p (markOf f true)) (bit (fromTo j i e))
+  tally-at f e = go (fromTo i j e) (fromTo j i e) refl refl
     where
-      go : (a b : Bool) → hits i j e ≡ a → hits j i e ≡ b → tally p (pick a (markOf f false ∷ []) (pick b (markOf f true ∷ []) []))
+      go : (a b : Bool) → fromTo i j e ≡ a → fromTo j i e ≡ b → tally p (pick a (markOf f false ∷ []) (pick b (markOf f true ∷ []) []))
           ≡ given (p (markOf f false)) (bit a) + given (p (markOf f true)) (bit b)
-      go true true u v = absurd (apart (sym (hits-eq i j e u .0) ∙ hits-eq j i e v .0))
+      go true true u v = absurd (apart (sym (fromTo-eq i j e u .0) ∙ fromTo-eq j i e v .0))
       go true false u v = omega (arith, given-one (p (markOf f false)), given-none (p (markOf f true)))
       go false true u v = omega (arith, given-one (p (markOf f true)), given-none (p (markOf f false)))
       go false false u v = omega (arith, given-none (p (markOf f false)), given-none (p (markOf f true)))
@@ -91,15 +87,12 @@ module _ (p : ℕ → Bool) {i j : ℕ} (apart : i ≢ j) where
     tally-append p (markAt i j f e) (marksIn i j f l),
     tally-at f e,
     tally-in f l,
-    given-more (p (markOf f false)) (bit (hits i j e)) (count i j l),
-    given-more (p (markOf f true)) (bit (hits j i e)) (count j i l),
+    given-more (p (markOf f false)) (bit (fromTo i j e)) (count i j l),
+    given-more (p (markOf f true)) (bit (fromTo j i e)) (count j i l),
   )
 
 module _ {i j : ℕ} (apart : i ≢ j) where
   -- ---- how many there are
-  pub marks-in-length : (f : ℕ) (face : List ℕ) → length (marksIn i j f (sides face)) ≡ has i j face
-  marks-in-length f face = sym (length-tally (marksIn i j f (sides face))) ∙ tally-in (λ m. true) apart f (sides face)
-
   length-from : (f : ℕ) (fs : List (List ℕ)) → length (marksFrom i j f fs) ≡ occurs i j fs
   length-from f fs = sym (length-tally (marksFrom i j f fs)) ∙ go f fs
     where

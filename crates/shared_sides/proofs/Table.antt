@@ -15,7 +15,7 @@ use Rattle.places.specs.Loops.{pick}
 use Rattle.places.specs.Ring.{sides, nextOf}
 use Rattle.places.proofs.Loops.{drop-more}
 use Rattle.places.proofs.Rings.{length-sides, side-at}
-use Rattle.exact.specs.Sides.{hits}
+use Rattle.exact.specs.Sides.{fromTo}
 use Rattle.exact.proofs.Balance.{and-comm}
 use Rattle.cell.specs.Faces.{facesFrom}
 use Rattle.cell.proofs.Faces.{faces-more, faces-none}
@@ -161,10 +161,10 @@ module _ {In : ℕ → Type 0} {at : ℕ → ℕ → ℕ} {t t′ : List ℕ} wh
   }
 
 -- one that runs up, or down, or from a vertex to itself
-miss : (i j a b : ℕ) → (a ≡ i → b ≡ j → ⊥) → hits i j (a, b) ≡ false
+miss : (i j a b : ℕ) → (a ≡ i → b ≡ j → ⊥) → fromTo i j (a, b) ≡ false
 miss i j a b n = go (ℕ-discrete a i) (ℕ-discrete b j)
   where
-    go : Dec (a ≡ i) → Dec (b ≡ j) → hits i j (a, b) ≡ false
+    go : Dec (a ≡ i) → Dec (b ≡ j) → fromTo i j (a, b) ≡ false
     go (yes p) (yes q) = absurd (n p q)
     go (yes p) (no q) = rw (eq-eqb a i p, ne-eqb b j q)
     go (no p) d = rw (ne-eqb a i p)

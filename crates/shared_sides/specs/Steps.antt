@@ -1,5 +1,6 @@
 -- What functions below the gatehouse ask of and promise each other; no contract of a public entry speaks of these.
--- The marks that faces leave at their sides: `at` says which entry of the table is that for a row and a column, and In which vertices have one.
+-- The marks that faces leave at their sides: `at` says which entry of the table is that for a row and a column,
+-- and In which vertices have one.
 use mathlib.Core.Path.{_≡_}
 use mathlib.Core.Bool.{Bool, true, false, not, _&&_, Bool·beq}
 use mathlib.Core.List.{List, [], _∷_, _++_}
@@ -8,7 +9,7 @@ use lib.Dec.{eqb, ltb}
 use lib.ListN.{length, getD}
 use Rattle.places.specs.Loops.{pick, anyOf}
 use Rattle.places.specs.Ring.{sides}
-use Rattle.exact.specs.Sides.{bit, hits, count, runs}
+use Rattle.exact.specs.Sides.{bit, fromTo, count, runs}
 use Rattle.exact.specs.Facing.{faceBy, reversedBy, occurs, has}
 use Rattle.side_table.specs.Numbers.{Known, Numbering, entryOf}
 
@@ -29,7 +30,7 @@ runsUp back m = Bool·beq back (downOf m)
 -- ---- the marks at the side between i and j, i the lower, in the order in which they are left
 -- what the face f leaves there for one of its sides, and for sides one after the other
 abbrev pub markAt : ℕ → ℕ → ℕ → ℕ × ℕ → List ℕ
-markAt i j f e = pick (hits i j e) (markOf f false ∷ []) (pick (hits j i e) (markOf f true ∷ []) [])
+markAt i j f e = pick (fromTo i j e) (markOf f false ∷ []) (pick (fromTo j i e) (markOf f true ∷ []) [])
 
 abbrev pub marksIn : ℕ → ℕ → ℕ → List (ℕ × ℕ) → List ℕ
 marksIn i j f [] = []

@@ -15,7 +15,8 @@ ghost use Rattle.exact.specs.Facing.{doubled, unfit};
 ghost use Rattle.cell.specs.Faces.{facesOf, rises};
 ghost use Rattle.side_table.specs.Table.{Blank};
 ghost use Rattle.side_table.specs.Numbers.{Known, Numbered, entryOf};
-ghost use Rattle.shared_sides.specs.Steps.{markOf, faceOf, downOf, markAt, marksIn, marksFrom, Left, Ready, firstAt, secondAt, lonely, lonelyFace, lonelyFaces, Mates, Fresh};
+ghost use Rattle.shared_sides.specs.Steps.{markOf, faceOf, downOf, markAt, marksIn, marksFrom, Left, Ready, firstAt, secondAt};
+ghost use Rattle.shared_sides.specs.Steps.{lonely, lonelyFace, lonelyFaces, Mates, Fresh};
 
 // The mark of the face f at a side that it runs up, from the lower vertex to the higher, or down.
 fn mark(f: usize, down: bool) -> u16
@@ -50,7 +51,8 @@ pub fn is_down(m: u16) -> bool
 fn put(table: &mut [u16], number: &[u16], k: usize, low: usize, high: usize, m: u16) -> bool
     requires { ⌜ Ready (now number) k (now table) ⌝ }
     requires { ⌜ Known (now number) k low × Known (now number) k high × (low < high) × (0 < m) ⌝ }
-    ensures { λ r. ⌜ Left (Known (now (number .entry)) k) (entryOf (now (number .entry)) k) (now (table .entry)) (λ i j. pick (eqb low i && eqb high j) (m ∷ []) []) (now (table .exit)) r ⌝ }
+    ensures { λ r. ⌜ Left (Known (now (number .entry)) k) (entryOf (now (number .entry)) k) (now (table .entry))
+        (λ i j. pick (eqb low i && eqb high j) (m ∷ []) []) (now (table .exit)) r ⌝ }
 {
     let first = side_table::entry(number, k, low, high);
     if table[first] == 0 {
@@ -69,7 +71,8 @@ fn put(table: &mut [u16], number: &[u16], k: usize, low: usize, high: usize, m: 
 fn put_side(table: &mut [u16], number: &[u16], k: usize, a: usize, b: usize, f: usize) -> bool
     requires { ⌜ Ready (now number) k (now table) ⌝ }
     requires { ⌜ Known (now number) k a × Known (now number) k b × (f < mostFaces) ⌝ }
-    ensures { λ r. ⌜ Left (Known (now (number .entry)) k) (entryOf (now (number .entry)) k) (now (table .entry)) (λ i j. markAt i j f (a, b)) (now (table .exit)) r ⌝ }
+    ensures { λ r. ⌜ Left (Known (now (number .entry)) k) (entryOf (now (number .entry)) k) (now (table .entry))
+        (λ i j. markAt i j f (a, b)) (now (table .exit)) r ⌝ }
 {
     if a == b {
         return true;
@@ -84,7 +87,8 @@ fn put_side(table: &mut [u16], number: &[u16], k: usize, a: usize, b: usize, f: 
 fn put_face(table: &mut [u16], number: &[u16], k: usize, face: &[u32], f: usize) -> bool
     requires { ⌜ Ready (now number) k (now table) ⌝ }
     requires { ⌜ Each 0 (Known (now number) k) (now face) × (f < mostFaces) ⌝ }
-    ensures { λ r. ⌜ Left (Known (now (number .entry)) k) (entryOf (now (number .entry)) k) (now (table .entry)) (λ i j. marksIn i j f (sides (now (face .entry)))) (now (table .exit)) r ⌝ }
+    ensures { λ r. ⌜ Left (Known (now (number .entry)) k) (entryOf (now (number .entry)) k) (now (table .entry))
+        (λ i j. marksIn i j f (sides (now (face .entry)))) (now (table .exit)) r ⌝ }
 {
     let n = face.len();
     let mut i = 0;
@@ -103,7 +107,8 @@ fn put_face(table: &mut [u16], number: &[u16], k: usize, face: &[u32], f: usize)
 fn put_faces(table: &mut [u16], number: &[u16], k: usize, corners: &[u32], ends: &[u32]) -> bool
     requires { ⌜ Ready (now number) k (now table) ⌝ }
     requires { ⌜ Numbered (now number) k (now corners) (now ends) × (length (now ends) ≤ mostFaces) ⌝ }
-    ensures { λ r. ⌜ Left (Known (now (number .entry)) k) (entryOf (now (number .entry)) k) (now (table .entry)) (λ i j. marksFrom i j 0 (facesOf (now (corners .entry)) (now (ends .entry)))) (now (table .exit)) r ⌝ }
+    ensures { λ r. ⌜ Left (Known (now (number .entry)) k) (entryOf (now (number .entry)) k) (now (table .entry))
+        (λ i j. marksFrom i j 0 (facesOf (now (corners .entry)) (now (ends .entry)))) (now (table .exit)) r ⌝ }
 {
     let n = ends.len();
     let mut start = 0;
@@ -176,7 +181,8 @@ fn lonely_face(table: &[u16], number: &[u16], k: usize, face: &[u32]) -> bool
 fn lonely_faces(table: &[u16], number: &[u16], k: usize, corners: &[u32], ends: &[u32]) -> bool
     requires { ⌜ Numbered (now number) k (now corners) (now ends) ⌝ }
     requires { ⌜ k * k ≤ length (now table) ⌝ }
-    ensures { λ r. ⌜ r ≡ lonelyFaces (entryOf (now (number .entry)) k) (now (table .entry)) (facesOf (now (corners .entry)) (now (ends .entry))) ⌝ }
+    ensures { λ r. ⌜ r ≡ lonelyFaces (entryOf (now (number .entry)) k) (now (table .entry))
+        (facesOf (now (corners .entry)) (now (ends .entry))) ⌝ }
 {
     let n = ends.len();
     let mut start = 0;
@@ -213,7 +219,8 @@ fn doubled_face(stamp: &mut [u16], face: &[u32], own: u16) -> bool
 
 // Whether a face holds a vertex twice.
 fn doubled_faces(stamp: &mut [u16], corners: &[u32], ends: &[u32]) -> bool
-    requires { ⌜ Each 0 (λ x. x < mostVertices) (now corners) × T (rises 0 (now ends) (length (now corners))) × (length (now ends) ≤ mostFaces) ⌝ }
+    requires { ⌜ Each 0 (λ x. x < mostVertices) (now corners) × T (rises 0 (now ends) (length (now corners)))
+        × (length (now ends) ≤ mostFaces) ⌝ }
     requires { ⌜ (length (now stamp) ≡ mostVertices) × Blank (now stamp) ⌝ }
     ensures { λ r. ⌜ r ≡ anyOf doubled (facesOf (now (corners .entry)) (now (ends .entry))) ⌝ }
 {
@@ -233,7 +240,8 @@ fn doubled_faces(stamp: &mut [u16], corners: &[u32], ends: &[u32]) -> bool
 
 // The same with stamps of its own.
 fn any_doubled(corners: &[u32], ends: &[u32]) -> bool
-    requires { ⌜ Each 0 (λ x. x < mostVertices) (now corners) × T (rises 0 (now ends) (length (now corners))) × (length (now ends) ≤ mostFaces) ⌝ }
+    requires { ⌜ Each 0 (λ x. x < mostVertices) (now corners) × T (rises 0 (now ends) (length (now corners)))
+        × (length (now ends) ≤ mostFaces) ⌝ }
     ensures { λ r. ⌜ r ≡ anyOf doubled (facesOf (now (corners .entry)) (now (ends .entry))) ⌝ }
 {
     let mut stamp = [0u16; places::limits::MOST_VERTICES];
@@ -246,7 +254,8 @@ pub fn pair_up(table: &mut [u16], number: &[u16], k: usize, corners: &[u32], end
     requires { ⌜ Numbered (now number) k (now corners) (now ends) × (length (now ends) ≤ mostFaces) ⌝ }
     requires { ⌜ (k * k ≤ length (now table)) × Blank (now table) ⌝ }
     ensures { λ r. ⌜ r ≡ not (unfit (facesOf (now (corners .entry)) (now (ends .entry)))) ⌝ }
-    ensures { λ r. ⌜ (r ≡ true → Mates (Known (now (number .entry)) k) (entryOf (now (number .entry)) k) (now (table .exit)) (facesOf (now (corners .entry)) (now (ends .entry)))) ⌝ }
+    ensures { λ r. ⌜ (r ≡ true → Mates (Known (now (number .entry)) k) (entryOf (now (number .entry)) k) (now (table .exit))
+        (facesOf (now (corners .entry)) (now (ends .entry)))) ⌝ }
 {
     if !put_faces(table, number, k, corners, ends) {
         return false;

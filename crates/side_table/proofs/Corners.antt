@@ -1,4 +1,4 @@
--- What holds of a cell's corners: of one that was read, of a face that was lent.
+-- What holds of all corners of a cell holds of one that was read and of a face that was lent, for every loop over sides.
 use mathlib.Core.Path.{_≡_}
 use mathlib.Core.List.{List}
 use Prim.Native.Nat.{ℕ, _-_, _<_, _≤_}

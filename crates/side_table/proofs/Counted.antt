@@ -13,7 +13,7 @@ use Rattle.places.specs.Loops.{foldList}
 use Rattle.places.specs.Lists.{Each}
 use Rattle.places.specs.Ring.{walk, sides, foldPairs}
 use Rattle.places.proofs.Lists.{each-nil, each-cons, each-head, each-tail, each-append, each-slice}
-use Rattle.exact.specs.Sides.{allSides, bit, hits, count, runs}
+use Rattle.exact.specs.Sides.{allSides, bit, fromTo, count, runs}
 use Rattle.cell.specs.Faces.{facesFrom, facesOf}
 use Rattle.side_table.specs.Table.{oneMore, countSide, countFace, countFaces, Blank}
 
@@ -46,7 +46,9 @@ module _ {In : ℕ → Type 0} where
 
   pub all-both : (p : ℕ) (c es : List ℕ) → Each 0 In c → Each (0, 0) (Both In) (allSides (facesFrom p c es))
   all-both p c [] t = each-nil
-  all-both p c (e ∷ es) t = each-append (sides (slice p e c)) (allSides (facesFrom e c es)) (sides-both (slice p e c) (each-slice p e c t)) (all-both e c es t)
+  all-both p c (e ∷ es) t =
+      let first = sides-both (slice p e c) (each-slice p e c t) in
+      each-append (sides (slice p e c)) (allSides (facesFrom e c es)) first (all-both e c es t)
 
 -- ---- what is counted
 pairs-append : {S : Type 0} (f : ℕ → ℕ → S → S) (l m : List (ℕ × ℕ)) (s : S) → foldPairs f (l ++ m) s ≡ foldPairs f m (foldPairs f l s)
@@ -58,11 +60,12 @@ pairs-append f (e ∷ l) m s = pairs-append f l m (f (e .0) (e .1) s)
 faces-pairs : (at : ℕ → ℕ → ℕ) (fs : List (List ℕ)) (t : List ℕ) → countFaces at fs t ≡ foldPairs (countSide at) (allSides fs) t
 unfolding countFaces countFace foldList foldPairs
 faces-pairs at [] t = refl
-faces-pairs at (f ∷ fs) t = faces-pairs at fs (foldPairs (countSide at) (sides f) t) ∙ sym (pairs-append (countSide at) (sides f) (allSides fs) t)
+faces-pairs at (f ∷ fs) t =
+    faces-pairs at fs (foldPairs (countSide at) (sides f) t) ∙ sym (pairs-append (countSide at) (sides f) (allSides fs) t)
 
 module _ {In : ℕ → Type 0} {at : ℕ → ℕ → ℕ} {n : ℕ} (tells : Tells In at n) where
   -- two entries are one exactly where the sides are
-  one-entry : (a b x y : ℕ) → In a → In b → In x → In y → eqb (at a b) (at x y) ≡ hits x y (a, b)
+  one-entry : (a b x y : ℕ) → In a → In b → In x → In y → eqb (at a b) (at x y) ≡ fromTo x y (a, b)
   one-entry a b x y ha hb hx hy = go (ℕ-discrete a x) (ℕ-discrete b y)
     where
       go : Dec (a ≡ x) → Dec (b ≡ y) → eqb (at a b) (at x y) ≡ eqb a x && eqb b y

@@ -1,4 +1,5 @@
--- Numbers for vertices: one more vertex is seen, and what an entry of the table tells apart.
+-- Numbers for vertices, for `number_vertex` and `number_all`: one more vertex is seen; and that each pair of numbered vertices has an entry
+-- of its own in the table.
 use mathlib.Core.Path.{_≡_, refl, sym, _∙_, ap}
 use mathlib.Core.Logic.{_≢_}
 use mathlib.Core.List.{List, [], _∷_}
@@ -16,7 +17,8 @@ use Rattle.side_table.proofs.Mentioned.{follows-still, follows-more, fo
 use Rattle.side_table.proofs.Counted.{Tells}
 
 -- ---- one more has a number
-named-one : (number : List ℕ) (x w : ℕ) → x < length number → getD number x 0 ≡ 256 → w ≢ 256 → unnamed number ≡ suc (unnamed (set number x w))
+named-one : (number : List ℕ) (x w : ℕ) → x < length number → getD number x 0 ≡ 256 → w ≢ 256
+    → unnamed number ≡ suc (unnamed (set number x w))
 named-one [] x w h e n = absurd (omega arith)
 named-one (a ∷ number) zero w h e n = rw (eq-eqb a 256 e, ne-eqb w 256 n) (omega arith)
 named-one (a ∷ number) (suc x) w h e n = omega (arith, named-one number x w (omega arith) e n)
@@ -55,7 +57,8 @@ module _ {number : List ℕ} {k x : ℕ} (g : Numbering number k) (h : x < 256) 
     told′ y hy f (yes p) = rw (p, here) (omega arith)
     told′ y hy f (no n) = omega (arith, below y hy n f)
 
-    apart′ : (y z : ℕ) → y < 256 → z < 256 → getD (set number x k) y 0 ≢ 256 → getD (set number x k) y 0 ≡ getD (set number x k) z 0 → Dec (y ≡ x) → Dec (z ≡ x) → y ≡ z
+    apart′ : (y z : ℕ) → y < 256 → z < 256 → getD (set number x k) y 0 ≢ 256 → getD (set number x k) y 0 ≡ getD (set number x k) z 0
+        → Dec (y ≡ x) → Dec (z ≡ x) → y ≡ z
     apart′ y z hy hz f q (yes p) (yes r) = p ∙ sym r
     apart′ y z hy hz f q (yes p) (no r) =
         let w : getD (set number x k) y 0 ≡ k = rw p here in
@@ -153,7 +156,8 @@ unfolding entryOf
 entry-below {number} {k} {a} {b} ha hb = omega (arith, mul-le-mul-right k (ha .told), hb .told)
 
 -- what the code computes on the way to an entry is small
-pub entry-fits : {number : List ℕ} {k a b : ℕ} → Known number k a → Known number k b → k ≤ 256 → getD number a 0 * k + getD number b 0 ≤ 65536
+pub entry-fits : {number : List ℕ} {k a b : ℕ} → Known number k a → Known number k b → k ≤ 256
+    → getD number a 0 * k + getD number b 0 ≤ 65536
 entry-fits {number} {k} {a} {b} ha hb h = omega (arith, mul-le-mul-right k (ha .told), hb .told, mul-le-mul h h)
 
 -- each pair of vertices that have a number has an entry of its own
@@ -162,9 +166,14 @@ unfolding entryOf
 entries {number} {k} g = record { within = entry-below; apart = go }
   where
     one : {x y : ℕ} → Known number k x → Known number k y → getD number x 0 ≡ getD number y 0 → x ≡ y
-    one {x} {y} hx hy e = g .apart x y (omega (arith, hx .within, g .size)) (omega (arith, hy .within, g .size)) (λ z. absurd (omega (arith, hx .told, few g))) e
+    one {x} {y} hx hy e =
+        g .apart x y (omega (arith, hx .within, g .size)) (omega (arith, hy .within, g .size))
+        (λ z. absurd (omega (arith, hx .told, few g))) e
 
-    go : {a b x y : ℕ} → Known number k a → Known number k b → Known number k x → Known number k y → entryOf number k a b ≡ entryOf number k x y → (a ≡ x) × (b ≡ y)
+    go : {a b x y : ℕ} → Known number k a → Known number k b → Known number k x → Known number k y
+        → entryOf number k a b ≡ entryOf number k x y → (a ≡ x) × (b ≡ y)
     go {a} {b} {x} {y} ha hb hx hy e =
-        let r : getD number a 0 ≡ getD number x 0 = row k (getD number a 0) (getD number b 0) (getD number x 0) (getD number y 0) (hb .told) (hy .told) e in
+        let r : getD number a 0 ≡ getD number x 0 =
+        row k (getD number a 0) (getD number b 0) (getD number x 0) (getD number y 0) (hb .told) (hy .told) e
+        in
         (one ha hx r, one hb hy (omega (arith, ap (λ n. n * k) r)))

@@ -44,11 +44,11 @@ volumeOf vs fs = magnitudeOf (v6Of vs fs) /f six64
 -- the sums with those of the triangle t added: its triple product, and its corners' sum times that
 unfoldable pub addMoment : List Point → Point → List ℕ → Moments → Moments
 addMoment vs ref t m =
+    let a = cornerFrom vs ref t 0 in
+    let b = cornerFrom vs ref t 1 in
+    let c = cornerFrom vs ref t 2 in
     let d = tripleAbout vs ref t in
-    record {
-      v6 = m .v6 +f d;
-      sum = pointBy 3 (λ k. at (m .sum) k +f (at (cornerFrom vs ref t 0) k +f at (cornerFrom vs ref t 1) k +f at (cornerFrom vs ref t 2) k) *f d);
-    }
+    record { v6 = m .v6 +f d; sum = pointBy 3 (λ k. at (m .sum) k +f (at a k +f at b k +f at c k) *f d) }
 
 -- no sums yet
 abbrev pub noMoments : Moments

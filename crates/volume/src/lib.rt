@@ -5,6 +5,7 @@ ghost use mathlib.Core.Bool.{_&&_};
 ghost use lib.Dec.{leb, ltb};
 ghost use mathlib.Core.List.{[]};
 ghost use lib.ListN.{length};
+ghost use Rattle.places.specs.Lent.{old};
 ghost use Rattle.places.specs.Limits.{mostFaces, mostCorners};
 ghost use Rattle.places.specs.Lists.{Each};
 ghost use Rattle.places.specs.Loops.{pick, foldList};
@@ -13,10 +14,12 @@ ghost use Rattle.flat.specs.Steps.{Inside};
 ghost use Rattle.cut.specs.Cut.{cutOf};
 ghost use Rattle.cell.specs.Faces.{facesOf};
 ghost use Rattle.cell.specs.Steps.{Sound};
-ghost use Rattle.volume.specs.Volume.{tripleOf, cornerFrom, tripleAbout, addTriple, volumeOf, addMoment, momentsOf, balanceOf, geometricCentroidOf};
+ghost use Rattle.volume.specs.Volume.{tripleOf, cornerFrom, tripleAbout, addTriple, volumeOf, addMoment, momentsOf, balanceOf};
+ghost use Rattle.volume.specs.Volume.{geometricCentroidOf};
 ghost use Rattle.volume.specs.Steps.{measuredOf, addFace, addFaceMoments};
 
-// What one pass over the faces tells: six times the signed volume, how many triangles there are, and how many faces of three or more corners gave too few.
+// What one pass over the faces tells: six times the signed volume, how many triangles there
+// are, and how many faces of three or more corners gave too few.
 pub struct Measured {
     pub v6: f64,
     pub triangles: usize,
@@ -43,7 +46,7 @@ pub fn triple_product(a: [f64; 3], b: [f64; 3], c: [f64; 3]) -> f64
 fn corner_from(coords: &[f64], t: [u32; 3], refp: [f64; 3], k: usize) -> [f64; 3]
     requires { ⌜ Inside (verticesOf (now coords)) t ⌝ }
     requires { ⌜ k < 3 ⌝ }
-    ensures { λ r. ⌜ r ≡ cornerFrom (verticesOf (now (coords .entry))) refp t k ⌝ }
+    ensures { λ r. ⌜ r ≡ cornerFrom (verticesOf (old coords)) refp t k ⌝ }
 {
     flat::minus3(flat::space::vertex_at(coords, &t, k), refp)
 }
@@ -51,7 +54,7 @@ fn corner_from(coords: &[f64], t: [u32; 3], refp: [f64; 3], k: usize) -> [f64; 3
 // The triple product of a triangle about the reference point.
 fn triple(coords: &[f64], t: [u32; 3], refp: [f64; 3]) -> f64
     requires { ⌜ Inside (verticesOf (now coords)) t ⌝ }
-    ensures { λ r. ⌜ r ≡ tripleAbout (verticesOf (now (coords .entry))) refp t ⌝ }
+    ensures { λ r. ⌜ r ≡ tripleAbout (verticesOf (old coords)) refp t ⌝ }
 {
     triple_product(
         corner_from(coords, t, refp, 0),
@@ -63,7 +66,7 @@ fn triple(coords: &[f64], t: [u32; 3], refp: [f64; 3]) -> f64
 // The sum v with the triple products of a list of triangles added.
 fn add_triangles(coords: &[f64], tris: &[[u32; 3]], refp: [f64; 3], v: f64) -> f64
     requires { ⌜ Each [] (Inside (verticesOf (now coords))) (now tris) ⌝ }
-    ensures { λ r. ⌜ r ≡ foldList (addTriple (verticesOf (now (coords .entry))) refp) (now (tris .entry)) v ⌝ }
+    ensures { λ r. ⌜ r ≡ foldList (addTriple (verticesOf (old coords)) refp) (old tris) v ⌝ }
 {
     let n = tris.len();
     let mut s = v;
@@ -98,7 +101,7 @@ fn add_face(
     requires { ⌜ Inside (verticesOf (now coords)) (now face) ⌝ }
     requires { ⌜ (length (now face) ≤ mostCorners) × (length (now face) - 2 ≤ length (now out)) ⌝ }
     requires { ⌜ (m .triangles ≤ mostCorners) × (m .short ≤ mostFaces) ⌝ }
-    ensures { λ r. ⌜ r ≡ addFace (verticesOf (now (coords .entry))) refp (now (face .entry)) m ⌝ }
+    ensures { λ r. ⌜ r ≡ addFace (verticesOf (old coords)) refp (old face) m ⌝ }
 {
     let c = cut::cut(coords, face, out);
     let k = c.triangles;
@@ -115,7 +118,7 @@ fn add_face(
 fn measure_in(coords: &[f64], corners: &[u32], ends: &[u32], out: &mut [[u32; 3]]) -> Measured
     requires { ⌜ Sound (now coords) (now corners) (now ends) ⌝ }
     requires { ⌜ length (now corners) ≤ length (now out) ⌝ }
-    ensures { λ r. ⌜ r ≡ measuredOf (verticesOf (now (coords .entry))) (facesOf (now (corners .entry)) (now (ends .entry))) ⌝ }
+    ensures { λ r. ⌜ r ≡ measuredOf (verticesOf (old coords)) (facesOf (old corners) (old ends)) ⌝ }
 {
     let refp = flat::space::vertex_centroid(coords);
     let n = ends.len();
@@ -138,7 +141,7 @@ fn measure_in(coords: &[f64], corners: &[u32], ends: &[u32], out: &mut [[u32; 3]
 // The list for one face's triangles is cleared once a cell, and is small for usual cells.
 pub fn measure(coords: &[f64], corners: &[u32], ends: &[u32]) -> Measured
     requires { ⌜ Sound (now coords) (now corners) (now ends) ⌝ }
-    ensures { λ r. ⌜ r ≡ measuredOf (verticesOf (now (coords .entry))) (facesOf (now (corners .entry)) (now (ends .entry))) ⌝ }
+    ensures { λ r. ⌜ r ≡ measuredOf (verticesOf (old coords)) (facesOf (old corners) (old ends)) ⌝ }
 {
     if corners.len() <= 256 {
         let mut out = [[0u32; 3]; 256];
@@ -151,7 +154,7 @@ pub fn measure(coords: &[f64], corners: &[u32], ends: &[u32]) -> Measured
 // |v6| / 6.
 pub fn volume(coords: &[f64], corners: &[u32], ends: &[u32]) -> f64
     requires { ⌜ Sound (now coords) (now corners) (now ends) ⌝ }
-    ensures { λ r. ⌜ r ≡ volumeOf (verticesOf (now (coords .entry))) (facesOf (now (corners .entry)) (now (ends .entry))) ⌝ }
+    ensures { λ r. ⌜ r ≡ volumeOf (verticesOf (old coords)) (facesOf (old corners) (old ends)) ⌝ }
 {
     let m = measure(coords, corners, ends);
     floats::magnitude(m.v6) / 6.0
@@ -160,7 +163,7 @@ pub fn volume(coords: &[f64], corners: &[u32], ends: &[u32]) -> f64
 // The sums with those of one triangle added.
 fn add_moment(coords: &[f64], t: [u32; 3], refp: [f64; 3], m: Moments) -> Moments
     requires { ⌜ Inside (verticesOf (now coords)) t ⌝ }
-    ensures { λ r. ⌜ r ≡ addMoment (verticesOf (now (coords .entry))) refp t m ⌝ }
+    ensures { λ r. ⌜ r ≡ addMoment (verticesOf (old coords)) refp t m ⌝ }
 {
     let a = corner_from(coords, t, refp, 0);
     let b = corner_from(coords, t, refp, 1);
@@ -180,7 +183,7 @@ fn add_moment(coords: &[f64], t: [u32; 3], refp: [f64; 3], m: Moments) -> Moment
 // With those of a list of triangles.
 fn add_moments(coords: &[f64], tris: &[[u32; 3]], refp: [f64; 3], m: Moments) -> Moments
     requires { ⌜ Each [] (Inside (verticesOf (now coords))) (now tris) ⌝ }
-    ensures { λ r. ⌜ r ≡ foldList (addMoment (verticesOf (now (coords .entry))) refp) (now (tris .entry)) m ⌝ }
+    ensures { λ r. ⌜ r ≡ foldList (addMoment (verticesOf (old coords)) refp) (old tris) m ⌝ }
 {
     let n = tris.len();
     let mut s = m;
@@ -203,13 +206,14 @@ fn add_face_moments(
 ) -> Moments
     requires { ⌜ Inside (verticesOf (now coords)) (now face) ⌝ }
     requires { ⌜ (length (now face) ≤ mostCorners) × (length (now face) - 2 ≤ length (now out)) ⌝ }
-    ensures { λ r. ⌜ r ≡ addFaceMoments (verticesOf (now (coords .entry))) refp (now (face .entry)) m ⌝ }
+    ensures { λ r. ⌜ r ≡ addFaceMoments (verticesOf (old coords)) refp (old face) m ⌝ }
 {
     let c = cut::cut(coords, face, out);
     let k = c.triangles;
     add_moments(coords, &out[..k], refp, m)
 }
 
+// The sums over all faces, about the vertex centroid; the triangles of each face are laid down in out.
 fn moments_in(
     coords: &[f64],
     corners: &[u32],
@@ -220,7 +224,7 @@ fn moments_in(
     requires { ⌜ Sound (now coords) (now corners) (now ends) ⌝ }
     requires { ⌜ length (now corners) ≤ length (now out) ⌝ }
     requires { ⌜ refp ≡ centroidOf 3 (verticesOf (now coords)) ⌝ }
-    ensures { λ r. ⌜ r ≡ momentsOf (verticesOf (now (coords .entry))) (facesOf (now (corners .entry)) (now (ends .entry))) ⌝ }
+    ensures { λ r. ⌜ r ≡ momentsOf (verticesOf (old coords)) (facesOf (old corners) (old ends)) ⌝ }
 {
     let n = ends.len();
     let mut m = Moments {
@@ -228,20 +232,21 @@ fn moments_in(
         sum: [0.0, 0.0, 0.0],
     };
     let mut start = 0;
-    let mut k = 0;
-    while k < n {
-        let end = places::corner(ends, k);
+    let mut i = 0;
+    while i < n {
+        let end = places::corner(ends, i);
         m = add_face_moments(coords, cell::face(corners, start, end), refp, m, out);
         start = end;
-        k += 1;
+        i += 1;
     }
     m
 }
 
+// The same with a list of its own for the triangles, small for usual cells.
 fn sum_moments(coords: &[f64], corners: &[u32], ends: &[u32], refp: [f64; 3]) -> Moments
     requires { ⌜ Sound (now coords) (now corners) (now ends) ⌝ }
     requires { ⌜ refp ≡ centroidOf 3 (verticesOf (now coords)) ⌝ }
-    ensures { λ r. ⌜ r ≡ momentsOf (verticesOf (now (coords .entry))) (facesOf (now (corners .entry)) (now (ends .entry))) ⌝ }
+    ensures { λ r. ⌜ r ≡ momentsOf (verticesOf (old coords)) (facesOf (old corners) (old ends)) ⌝ }
 {
     if corners.len() <= 256 {
         let mut out = [[0u32; 3]; 256];
@@ -254,7 +259,7 @@ fn sum_moments(coords: &[f64], corners: &[u32], ends: &[u32], refp: [f64; 3]) ->
 // The point that the sums about the reference point give: the first vertex when |v6| < 1e-30.
 fn balance(coords: &[f64], refp: [f64; 3], m: Moments) -> [f64; 3]
     requires { ⌜ 0 < length (verticesOf (now coords)) ⌝ }
-    ensures { λ r. ⌜ r ≡ balanceOf (verticesOf (now (coords .entry))) refp m ⌝ }
+    ensures { λ r. ⌜ r ≡ balanceOf (verticesOf (old coords)) refp m ⌝ }
 {
     let v6 = m.v6;
     let sum = m.sum;
@@ -264,9 +269,10 @@ fn balance(coords: &[f64], refp: [f64; 3], m: Moments) -> [f64; 3]
     flat::plus3(refp, flat::over3(sum, 4.0 * v6))
 }
 
+// The point at which the cell balances, as the sums about the vertex centroid give it.
 pub fn geometric_centroid(coords: &[f64], corners: &[u32], ends: &[u32]) -> [f64; 3]
     requires { ⌜ Sound (now coords) (now corners) (now ends) ⌝ }
-    ensures { λ r. ⌜ r ≡ geometricCentroidOf (verticesOf (now (coords .entry))) (facesOf (now (corners .entry)) (now (ends .entry))) ⌝ }
+    ensures { λ r. ⌜ r ≡ geometricCentroidOf (verticesOf (old coords)) (facesOf (old corners) (old ends)) ⌝ }
 {
     let refp = flat::space::vertex_centroid(coords);
     let m = sum_moments(coords, corners, ends, refp);

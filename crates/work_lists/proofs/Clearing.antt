@@ -1,4 +1,5 @@
--- From an outline that stands at the front of a work list to lists that show it, +0 in every other number; for points of any number of coordinates.
+-- From an outline that stands at the front of a work list to lists that show it, +0 in every other number;
+-- for points of any number of coordinates.
 use mathlib.Core.Path.{_≡_, refl, sym, ap, _∙_}
 use mathlib.Core.Logic.{_⊎_, inl, inr}
 use mathlib.Core.Bool.{Bool, true, false, Bool·beq}
@@ -28,11 +29,13 @@ pub of-second : (s : Bool) (m : ℕ) → pick (Bool·beq s true) m 0 ≡ pick s 
 of-second true m = refl
 of-second false m = refl
 
-pub shows-in : (s : Bool) (m : ℕ) (a b : List Float) → (pick (Bool·beq s false) m 0 ≤ length a) × (pick (Bool·beq s true) m 0 ≤ length b) → m ≤ length (pick s b a)
+pub shows-in : (s : Bool) (m : ℕ) (a b : List Float) → (pick (Bool·beq s false) m 0 ≤ length a) × (pick (Bool·beq s true) m 0 ≤ length b)
+    → m ≤ length (pick s b a)
 shows-in true m a b h = h .1
 shows-in false m a b h = h .0
 
-pub shows-least : (s : Bool) (m : ℕ) (a b : List Float) → (pick (Bool·beq s false) m 0 ≤ length a) × (pick (Bool·beq s true) m 0 ≤ length b) → (m ≤ length a) ⊎ (m ≤ length b)
+pub shows-least : (s : Bool) (m : ℕ) (a b : List Float) → (pick (Bool·beq s false) m 0 ≤ length a) × (pick (Bool·beq s true) m 0 ≤ length b)
+    → (m ≤ length a) ⊎ (m ≤ length b)
 shows-least true m a b h = inr (h .1)
 shows-least false m a b h = inl (h .0)
 
@@ -43,7 +46,8 @@ shownIn noRoom which = []
 shownIn (outline second ps) which = pick (Bool·beq second which) ps []
 
 -- a list after an outcome: those points, then +0
-after-is : (o : Outcome) (which : Bool) (n : ℕ) → listAfter o which n ≡ joined (shownIn o which) ++ replicate (n - length (joined (shownIn o which))) zero64
+after-is : (o : Outcome) (which : Bool) (n : ℕ)
+    → listAfter o which n ≡ joined (shownIn o which) ++ replicate (n - length (joined (shownIn o which))) zero64
 unfolding joined
 after-is nothing which n = rw sub-zero
 after-is noRoom which n = rw sub-zero
@@ -69,7 +73,8 @@ numbers-are (outline second (p ∷ ps)) size which = go (Bool·beq second which)
     go false = omega arith
 
 -- and they stand at its front
-stand-there : {o : Outcome} {r : Left} {a b : List Point} (which : Bool) → Ended o r a b → take (length (shownIn o which)) (pick which b a) ≡ shownIn o which
+stand-there : {o : Outcome} {r : Left} {a b : List Point} (which : Bool) → Ended o r a b
+    → take (length (shownIn o which)) (pick which b a) ≡ shownIn o which
 stand-there {o = nothing} which q = refl
 stand-there {o = noRoom} which q = refl
 stand-there {o = outline true ps} true q = q .stands
@@ -103,7 +108,8 @@ module _ {size : ℕ} {read : List Float → List Point} (s : Reads size read) w
       rw (numbers true) (s .fits (length (shownIn o true)) b (held (shownIn o true) b (stand-there true q))),
     )
 
-    pub settled : {a₀ b₀ a′ b′ : List Float} → length a ≡ length a₀ → length b ≡ length b₀ → a′ ≡ wiped (shownNumbers r size false) a → b′ ≡ wiped (shownNumbers r size true) b → Settled o r a₀ b₀ a′ b′
+    pub settled : {a₀ b₀ a′ b′ : List Float} → length a ≡ length a₀ → length b ≡ length b₀
+        → a′ ≡ wiped (shownNumbers r size false) a → b′ ≡ wiped (shownNumbers r size true) b → Settled o r a₀ b₀ a′ b′
     settled f g e h =
         record {
           answer = q .answer;

@@ -1,15 +1,15 @@
--- What an answer says of the outcome, and the stretch of numbers in which its points are stored; for points of any number of coordinates.
+-- How points are stored, two numbers or three each; what an answer says of the outcome, and the stretch of numbers that has its points.
 use mathlib.Core.Path.{_≡_, refl, sym, ap}
 use mathlib.Core.Logic.{_≢_}
 use mathlib.Core.Bool.{Bool, true, false}
 use mathlib.Core.List.{List, [], _∷_}
-use Prim.Native.Nat.{ℕ, zero, suc, _*_, _≤_}
+use Prim.Native.Nat.{ℕ, zero, suc, _*_, _/_, _≤_}
 use native.Mathlib.Omega.{arith}
 use lib.ListN.{length, take, length-take}
 use lib.Ieee.{Float}
 use Rattle.places.specs.Loops.{pick}
 use Rattle.places.specs.Stored.{inThrees, inPairs, joined}
-use Rattle.places.proofs.Stored.{length-threes, length-pairs}
+use Rattle.places.proofs.Stored.{length-threes, length-pairs, threes-take, pairs-take}
 use Rattle.flat.specs.Points.{Point}
 use Rattle.work_lists.specs.declared.Left.the-variants.{Nothing, Outline, NoRoom}
 use Rattle.work_lists.specs.WorkLists.{Outcome, nothing, noRoom, outline, outlineOf}
@@ -17,7 +17,9 @@ use Rattle.work_lists.specs.Steps.{Ended}
 
 -- ---- how points are stored: so many numbers each, and those of the first n points come first
 pub record Reads (size : ℕ) (read : List Float → List Point) : Type 0 where
+  pub count : (l : List Float) → length (read l) ≡ length l / size
   pub fits : (n : ℕ) (l : List Float) → n ≤ length (read l) → n * size ≤ length l
+  pub first : (n : ℕ) (l : List Float) → read (take (n * size) l) ≡ take n (read l)
   pub front : (n : ℕ) (l : List Float) → n ≤ length (read l) → joined (take n (read l)) ≡ take (n * size) l
 
 module _ {A : Type 0} where
@@ -41,10 +43,10 @@ module _ {A : Type 0} where
       rw e (ap (λ (r : List A). a ∷ b ∷ r) (front-pairs n l (omega arith)))
 
 pub reads-threes : Reads 3 inThrees
-reads-threes = record { fits = λ n l h. omega (arith, length-threes l); front = front-threes }
+reads-threes = record { count = length-threes; fits = λ n l h. omega (arith, length-threes l); first = threes-take; front = front-threes }
 
 pub reads-pairs : Reads 2 inPairs
-reads-pairs = record { fits = λ n l h. omega (arith, length-pairs l); front = front-pairs }
+reads-pairs = record { count = length-pairs; fits = λ n l h. omega (arith, length-pairs l); first = pairs-take; front = front-pairs }
 
 -- ---- from an answer back to the outcome
 -- nothing is left, or an outline of no points
@@ -60,7 +62,8 @@ room-lacks {o = noRoom} q = refl
 room-lacks {o = outline s []} q = let z : _≡_ {A = ℕ} 0 1 = cc (q .answer) in absurd (omega arith)
 room-lacks {o = outline s (p ∷ ps)} q = let z : _≡_ {A = ℕ} 0 1 = cc (q .answer) in absurd (omega arith)
 
-outline-is : {o : Outcome} {n : ℕ} {second : Bool} {a b : List Point} → Ended o (Outline n second) a b → (o ≡ outline second (take n (pick second b a))) × (n ≤ length (pick second b a))
+outline-is : {o : Outcome} {n : ℕ} {second : Bool} {a b : List Point} → Ended o (Outline n second) a b
+    → (o ≡ outline second (take n (pick second b a))) × (n ≤ length (pick second b a))
 outline-is {o = nothing} q = let z : _≡_ {A = ℕ} 0 1 = cc (q .answer) in absurd (omega arith)
 outline-is {o = noRoom} q = let z : _≡_ {A = ℕ} 0 1 = cc (q .answer) in absurd (omega arith)
 outline-is {o = outline s []} q = let z : _≡_ {A = ℕ} 0 1 = cc (q .answer) in absurd (omega arith)
@@ -74,7 +77,8 @@ pick-of : {A B : Type 0} (f : A → B) (s : Bool) (x y : A) → pick s (f x) (f 
 pick-of f true x y = refl
 pick-of f false x y = refl
 
-module _ {size : ℕ} {read : List Float → List Point} (s : Reads size read) {o : Outcome} {n : ℕ} {second : Bool} {a b : List Float} (q : Ended o (Outline n second) (read a) (read b)) where
+module _ {size : ℕ} {read : List Float → List Point} (s : Reads size read) {o : Outcome} {n : ℕ} {second : Bool} {a b : List Float}
+    (q : Ended o (Outline n second) (read a) (read b)) where
   pub outline-left : o ≡ outline second (take n (read (pick second b a)))
   outline-left = rw (pick-of read second b a) at (outline-is q .0)
 

@@ -15,7 +15,7 @@ use Rattle.places.proofs.Loops.{drop-more}
 use Rattle.work_lists.specs.Steps.{laidFrom, Filled}
 
 module _ {A : Type 0} where
-  pub length-laid : (k : ℕ) (xs l : List A) → length (laidFrom k xs l) ≡ length l
+  length-laid : (k : ℕ) (xs l : List A) → length (laidFrom k xs l) ≡ length l
   unfolding laidFrom
   length-laid k [] l = refl
   length-laid k (x ∷ xs) l = length-laid (k + 1) xs (set l k x) ∙ length-set l k x
@@ -33,7 +33,8 @@ module _ {A : Type 0} where
   laid-read k [] l h = rw (add-zero, append-nil)
   laid-read k (x ∷ xs) l h =
       let e : k + 1 + length xs ≡ k + length (x ∷ xs) = omega arith in
-      rw (← e) (laid-read (k + 1) xs (set l k x) (rw length-set (omega arith)) ∙ rw (add-one k, take-suc-set l k x (omega arith), append-assoc))
+      let step : take (k + 1) (set l k x) ++ xs ≡ take k l ++ x ∷ xs = rw (add-one k, take-suc-set l k x (omega arith), append-assoc) in
+      rw (← e) (laid-read (k + 1) xs (set l k x) (rw length-set (omega arith)) ∙ step)
 
   -- ---- stretches
   pub filled-none : {m : ℕ} {l : List A} → Filled [] m l m l
@@ -44,7 +45,8 @@ module _ {A : Type 0} where
   unfolding laidFrom
   filled-one e f = record { count = e; list = f }
 
-  pub filled-more : {xs ys : List A} {m k r : ℕ} {before between after : List A} → Filled xs m before k between → Filled ys k between r after → Filled (xs ++ ys) m before r after
+  pub filled-more : {xs ys : List A} {m k r : ℕ} {before between after : List A}
+      → Filled xs m before k between → Filled ys k between r after → Filled (xs ++ ys) m before r after
   filled-more {xs} {ys} {m} {before = before} p q =
       record {
         count = omega (arith, p .count, q .count, length-append xs ys);
@@ -54,9 +56,6 @@ module _ {A : Type 0} where
   -- where all fit, they are read back
   pub filled-read : {xs : List A} {r : ℕ} {before after : List A} → Filled xs 0 before r after → r ≤ length before → take r after ≡ xs
   filled-read {xs} {before = before} p h = rw (p .count, p .list) (laid-read 0 xs before (omega (arith, p .count)))
-
-  pub filled-length : {xs : List A} {m r : ℕ} {before after : List A} → Filled xs m before r after → length after ≡ length before
-  filled-length {xs} {m} {before = before} p = rw (p .list) (length-laid m xs before)
 
   -- ---- m elements were laid down, and with the rest of them all are
   pub record Rest (all before : List A) (m : ℕ) (rest l : List A) : Type 0 where
@@ -81,10 +80,12 @@ module _ {A : Type 0} where
   rest-length {all} {before} {l} {m} {rest} p = sym (length-laid m rest l) ∙ ap length (p .list) ∙ length-laid 0 all before
 
   -- ---- a loop that lays down the elements of a list one after the other
-  pub lay-next : {all before l l′ : List A} {i : ℕ} {x : A} (d : A) → Rest all before i (drop i all) l → i < length all → x ≡ getD all i d → l′ ≡ set l i x → Rest all before (i + 1) (drop (i + 1) all) l′
+  pub lay-next : {all before l l′ : List A} {i : ℕ} {x : A} (d : A) → Rest all before i (drop i all) l → i < length all
+      → x ≡ getD all i d → l′ ≡ set l i x → Rest all before (i + 1) (drop (i + 1) all) l′
   lay-next {all} {i = i} d p h e f = rest-more {xs = getD all i d ∷ []} (rw (drop-more all i d h) at p) (filled-one refl (rw e at f))
 
-  pub lay-end : {all before l : List A} {i : ℕ} → Rest all before i (drop i all) l → length all ≤ i → length all ≤ length before → take (length all) l ≡ all
+  pub lay-end : {all before l : List A} {i : ℕ} → Rest all before i (drop i all) l → length all ≤ i → length all ≤ length before
+      → take (length all) l ≡ all
   lay-end {all} {before} {l} {i} p h g =
       let f : Filled all 0 before i l = rest-end (rw (drop-of-length-le all h) at p) in
       let e : length all ≡ i = omega (arith, f .count) in
@@ -94,5 +95,6 @@ module _ {A : Type 0} where
   pub filled-over : {xs : List A} {m room : ℕ} {before after : List A} → Filled xs 0 before m after → room < m → ltb room (length xs) ≡ true
   filled-over {xs} {room = room} p h = lt-ltb room (length xs) (omega (arith, p .count))
 
-  pub filled-within : {xs : List A} {m room : ℕ} {before after : List A} → Filled xs 0 before m after → m ≤ room → ltb room (length xs) ≡ false
+  pub filled-within : {xs : List A} {m room : ℕ} {before after : List A} → Filled xs 0 before m after → m ≤ room
+      → ltb room (length xs) ≡ false
   filled-within {xs} {room = room} p h = le-ltb room (length xs) (omega (arith, p .count))

@@ -1,4 +1,4 @@
--- The loop of wipe: +0 at each place from a place on.
+-- The loop of `wipe`: storing +0 at each place from a place on is the list cut off there and then +0, which starts its invariant.
 use mathlib.Core.Path.{_≡_, sym, _∙_}
 use mathlib.Core.List.{List, _++_, append-assoc, append-nil}
 use Prim.Native.Nat.{ℕ, zero, suc, _+_, _-_, _≤_}

@@ -14,7 +14,8 @@ use lib.Ieee.{Float}
 use Rattle.work_lists.specs.declared.Left.{Left}
 use Rattle.work_lists.specs.declared.Left.the-variants.{Nothing, Outline, NoRoom}
 
--- ---- one step of a clipping: what a plane or an edge makes of the outline in one work list, as the code answers it and the other list shows it
+-- ---- one step of a clipping: what a plane or an edge makes of the outline in one work list,
+-- as the code answers it and the other list shows it
 -- an answer, and the list that was written to, show a change; what was made has room and stands at the front
 pub data Shows (room : ℕ) : Change → Step → List Point → Type 0 where
   shows-whole : {list : List Point} → Shows room whole Kept list
@@ -22,8 +23,10 @@ pub data Shows (room : ℕ) : Change → Step → List Point → Type 0 where
   shows-full : {list : List Point} → Shows room full Full list
   shows-made : {ps : List Point} {n : ℕ} {list : List Point} → n ≤ room → take n list ≡ ps → Shows room (made ps) (Made n) list
 
--- e was applied to the outline of n points in the first list or in the second: r and the other list show what it makes of it, and its own list stays
-pub record Moved {E : Type 0} (room : ℕ) (change : E → List Point → Change) (e : E) (n : ℕ) (second : Bool) (a b : List Point) (r : Step) (a′ b′ : List Point) : Type 0 where
+-- e was applied to the outline of n points in the first list or in the second: r and the other list show what it makes of it,
+-- and its own list stays
+pub record Moved {E : Type 0} (room : ℕ) (change : E → List Point → Change) (e : E) (n : ℕ) (second : Bool)
+    (a b : List Point) (r : Step) (a′ b′ : List Point) : Type 0 where
   pub shows : Shows room (change e (take n (pick second b a))) r (pick second a′ b′)
   pub same : pick second b′ a′ ≡ pick second b a
   pub long : length (pick second a′ b′) ≡ length (pick second a b)

@@ -17,27 +17,30 @@ pub data Change : Type 0 where
   whole gone full : Change
   made : List Point → Change
 
--- what all of them make of it: nothing is left, there is no room, or an outline is left, in the first work list (false) or in the second (true)
+-- what all of them make of it: nothing is left, there is no room, or an outline is left, in the first work list (false)
+-- or in the second (true)
 pub data Outcome : Type 0 where
   nothing noRoom : Outcome
   outline : Bool → List Point → Outcome
 
--- the outcome after a change: as it would be without it, or from the new outline on
-abbrev pub afterwards : Change → Outcome → (List Point → Outcome) → Outcome
-afterwards whole same next = same
-afterwards gone same next = nothing
-afterwards full same next = noRoom
-afterwards (made ps) same next = next ps
+-- what a change leaves of the outline ps in one of the lists: another that was made of it stands in the other list
+abbrev pub leftBy : Change → Bool → List Point → Outcome
+leftBy whole second ps = outline second ps
+leftBy gone second ps = nothing
+leftBy full second ps = noRoom
+leftBy (made qs) second ps = outline (not second) qs
 
--- the changes one after the other: each cut made goes from one list into the other
-unfoldable pub runOf : {E : Type 0} → (E → List Point → Change) → List E → Bool → List Point → Outcome
-runOf change [] second ps = outline second ps
-runOf change (e ∷ es) second ps = afterwards (change e ps) (runOf change es second ps) (λ qs. runOf change es (not second) qs)
+-- the planes or edges one after the other: each works on the outline that is left, and where none is left nothing more is done
+unfoldable pub runOf : {E : Type 0} → (E → List Point → Change) → List E → Outcome → Outcome
+runOf change [] left = left
+runOf change (e ∷ es) nothing = nothing
+runOf change (e ∷ es) noRoom = noRoom
+runOf change (e ∷ es) (outline second ps) = runOf change es (leftBy (change e ps) second ps)
 
 -- clipping starts in the first list, where what is to be clipped must have room
 unfoldable pub clippedOf : {E : Type 0} → ℕ → (E → List Point → Change) → List E → List Point → Outcome
 clippedOf room change es ps =
-    let left = runOf change es false ps in
+    let left = runOf change es (outline false ps) in
     pick (ltb room (length ps)) noRoom left
 
 -- the smaller of two numbers: how many points the shorter list holds

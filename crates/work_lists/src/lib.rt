@@ -4,12 +4,14 @@ ghost use mathlib.Core.Bool.{true, false};
 ghost use mathlib.Core.List.{_++_};
 ghost use Prim.Native.Nat.{_-_, _≤_};
 ghost use lib.ListN.{length, take, replicate};
+ghost use Rattle.places.specs.Lent.{old, new};
 ghost use Rattle.places.specs.Loops.{pick};
 ghost use Rattle.floats.specs.F64.{zero64};
 ghost use Rattle.work_lists.specs.WorkLists.{shorterOf};
 ghost use Rattle.work_lists.specs.Steps.{shownNumbers};
 
-// What one plane or edge makes of an outline: it is left whole, nothing is left, there is no room, or so many points are left in the other list.
+// What one plane or edge makes of an outline: it is left whole, nothing is left, there is no room,
+// or so many points are left in the other list.
 pub enum Step {
     Kept,
     Gone,
@@ -41,7 +43,7 @@ pub fn shorter(a: usize, b: usize) -> usize
 // Ruled out: the stretch of the other list; the whole list.
 pub fn shown<'a>(first: &'a [f64], second: &'a [f64], n: usize, in_second: bool) -> &'a [f64]
     requires { ⌜ n ≤ length (pick in_second (now second) (now first)) ⌝ }
-    ensures { λ r. ⌜ now r ≡ take n (pick in_second (now (second .entry)) (now (first .entry))) ⌝ }
+    ensures { λ r. ⌜ now r ≡ take n (pick in_second (old second) (old first)) ⌝ }
 {
     if in_second {
         &second[0..n]
@@ -54,7 +56,7 @@ pub fn shown<'a>(first: &'a [f64], second: &'a [f64], n: usize, in_second: bool)
 // Ruled out: the number at that place left as it was; a number before it changed.
 pub fn wipe(s: &mut [f64], from: usize)
     requires { ⌜ from ≤ length (now s) ⌝ }
-    ensures { λ _. ⌜ now (s .exit) ≡ take from (now (s .entry)) ++ replicate (length (now (s .entry)) - from) zero64 ⌝ }
+    ensures { λ _. ⌜ new s ≡ take from (old s) ++ replicate (length (old s) - from) zero64 ⌝ }
 {
     let n = s.len();
     let mut i = from;
@@ -68,8 +70,8 @@ pub fn wipe(s: &mut [f64], from: usize)
 // Ruled out: the other list left as it was; +0 only as far as the outline was written.
 pub fn settle(first: &mut [f64], second: &mut [f64], n: usize, in_second: bool)
     requires { ⌜ n ≤ length (pick in_second (now second) (now first)) ⌝ }
-    ensures { λ _. ⌜ now (first .exit) ≡ take (pick in_second 0 n) (now (first .entry)) ++ replicate (length (now (first .entry)) - pick in_second 0 n) zero64 ⌝ }
-    ensures { λ _. ⌜ now (second .exit) ≡ take (pick in_second n 0) (now (second .entry)) ++ replicate (length (now (second .entry)) - pick in_second n 0) zero64 ⌝ }
+    ensures { λ _. ⌜ new first ≡ take (pick in_second 0 n) (old first) ++ replicate (length (old first) - pick in_second 0 n) zero64 ⌝ }
+    ensures { λ _. ⌜ new second ≡ take (pick in_second n 0) (old second) ++ replicate (length (old second) - pick in_second n 0) zero64 ⌝ }
 {
     if in_second {
         wipe(first, 0);
@@ -84,8 +86,10 @@ pub fn settle(first: &mut [f64], second: &mut [f64], n: usize, in_second: bool)
 // Ruled out: numbers of an outline cleared with the rest; a refused call that leaves what it wrote.
 pub fn settle_answer(first: &mut [f64], second: &mut [f64], r: Left, size: usize)
     requires { ⌜ (shownNumbers r size false ≤ length (now first)) × (shownNumbers r size true ≤ length (now second)) ⌝ }
-    ensures { λ _. ⌜ now (first .exit) ≡ take (shownNumbers r size false) (now (first .entry)) ++ replicate (length (now (first .entry)) - shownNumbers r size false) zero64 ⌝ }
-    ensures { λ _. ⌜ now (second .exit) ≡ take (shownNumbers r size true) (now (second .entry)) ++ replicate (length (now (second .entry)) - shownNumbers r size true) zero64 ⌝ }
+    ensures { λ _. ⌜ new first ≡ take (shownNumbers r size false) (old first)
+        ++ replicate (length (old first) - shownNumbers r size false) zero64 ⌝ }
+    ensures { λ _. ⌜ new second ≡ take (shownNumbers r size true) (old second)
+        ++ replicate (length (old second) - shownNumbers r size true) zero64 ⌝ }
 {
     match r {
         Left::Nothing => settle(first, second, 0, false),

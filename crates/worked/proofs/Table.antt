@@ -20,7 +20,9 @@ use Rattle.worked.specs.Table.{given, stated, Claim, beside}
 
 -- every definition on the way to an answer: 'unfolding computed' opens them all
 unfoldable pub computed : Unit {0}
-unfolding Cut.computed Inside.computed Trim.computed lt foldPairs foldList countOf rootOf magnitudeOf largestOf areaSide summedAreaOf signedAreaOf runOf clippedOf squareOf dist3Of largestCoordinate doubledWithin spacedFrom spacedOf openedOf withoutDoubled cutChange planeChange clipFaceOf edgeChange clipConvexOf intersectionAreaOf
+unfolding Cut.computed Inside.computed Trim.computed lt foldPairs foldList countOf rootOf magnitudeOf largestOf areaSide summedAreaOf
+    signedAreaOf runOf clippedOf squareOf dist3Of largestCoordinate doubledWithin spacedFrom spacedOf openedOf withoutDoubled cutChange
+    planeChange clipFaceOf edgeChange clipConvexOf intersectionAreaOf
 computed = tt
 
 pub worked : Claim

@@ -22,7 +22,8 @@ use Rattle.geometry.specs.declared.Count.{Count}
 use Rattle.geometry.specs.TurnFaces.{TurnFacesGives}
 use Rattle.demand3.specs.Cube.{cube, otherFaces, hexCorners, hexEnds, backwardCorners, tornEnds}
 use Rattle.demand3.proofs.Refused.{refuses}
-use Rattle.worked.specs.TurnFaces.{insideOut, backward1, backward2, backward3, backward4, backward5, twoCubes, second, twoEnds, second2, second0, secondOut, hemicube, hemiEnds, bow, bowEnds, thinCorners, nothing, _also_, Claim}
+use Rattle.worked.specs.TurnFaces.{insideOut, backward1, backward2, backward3, backward4, backward5, twoCubes, second, twoEnds}
+use Rattle.worked.specs.TurnFaces.{second2, second0, secondOut, hemicube, hemiEnds, bow, bowEnds, thinCorners, nothing, _also_, Claim}
 use Rattle.worked.proofs.Table as Table
 use Rattle.worked.proofs.Kept.{shares, leads, kept, kept-by}
 

@@ -1,4 +1,5 @@
--- Document 01's 'Worked by hand': the rows marked *, as one table and one claim about the definitions, which proofs/Table.antt proves by computing them.
+-- Document 01's 'Worked by hand': the rows marked *, as one table and one claim about the definitions,
+-- which proofs/Table.antt proves by computing them.
 use mathlib.Core.Path.{_≡_}
 use mathlib.Core.Bool.{Bool, true, false}
 use mathlib.Core.List.{List, [], _∷_}
@@ -149,7 +150,8 @@ table =
 abbrev pub Claim : Type 0
 Claim = given table ≡ stated table
 
--- ---- rows beside document 01's: the report's query point, the same points asked of `point_in_phed`, and further crossings that are exact in f64
+-- ---- rows beside document 01's: the report's query point, the same points asked of `point_in_phed`,
+-- and further crossings that are exact in f64
 -- 1/4, 3/8, 5/2, −2, 5, 6 and 8
 abbrev quarter : Float
 quarter = ofBits binary64 0x3fd0_0000_0000_0000

@@ -1,3 +1,5 @@
+-- `cell::empty_refused` meets its contract: the face from one end to the next is empty exactly where the two are equal, and no face before
+-- k was.
 use mathlib.Core.Path.{_≡_, refl}
 use Prim.Native.Nat.{_-_}
 use lib.ListN.{length}
@@ -8,17 +10,57 @@ use borrow.Author.Needs.{needs}
 use Rattle.cell.proofs.empty_refused.Statement.{statement}
 use Rattle.cell.proofs.empty_refused.Tie as tie
 
+abbrev Inv-loop : tie.InvT-loop
+Inv-loop corners ends n start₀ k₀ start k =
+    (n ≡ length ends) × FaceAsking isEmpty corners ends (emptyRefused corners ends) start k
+
+abbrev μ-loop : tie.MeasureT-loop
+μ-loop corners ends n start₀ k₀ start k = n - k
+
+loop-holds : tie.Need-loop-holds Inv-loop μ-loop
+unfolding emptyRefused
+loop-holds c =
+    let start : tie.Start Inv-loop μ-loop = search in
+    let pre = start .pre in
+    (refl, faces-start pre refl)
+
+returns : tie.Need-returns Inv-loop μ-loop
+unfolding emptyRefused
+returns c =
+    let corner = c .before .corner in
+    let record { before = _; loop = loop } : tie.At-loop Inv-loop μ-loop = search in
+    let start : tie.Start Inv-loop μ-loop = search in
+    faces-yes (loop .inv .1) (search needs) (corner .ensures .0)
+    (empty-yes (loop .start) (corner .result) (start .args .corners .now) (search needs))
+
+loop-again : tie.Need-loop-again Inv-loop μ-loop
+unfolding emptyRefused
+loop-again c =
+    let corner = c .before .corner in
+    let record { before = _; loop = loop } : tie.At-loop Inv-loop μ-loop = search in
+    let start : tie.Start Inv-loop μ-loop = search in
+    let l = loop .inv .1 in
+    let q = corner .ensures .0 in
+    let step = faces-step l (search needs) q in (
+      loop .inv .0,
+      faces-no l (search needs) q
+          (empty-no (loop .start) (corner .result) (start .args .corners .now) (step .from) (step .upto) (c .if1 .left)),
+    )
+
+returns-2 : tie.Need-returns-2 Inv-loop μ-loop
+unfolding emptyRefused
+returns-2 c = faces-end (c .before .loop .inv .1) (search needs)
+
 pub empty-refused-spec : {M : Type 1} → statement M
 unfolding emptyRefused
 empty-refused-spec =
     tie.close
     (tie.spec
-    (λ corners ends n start₀ k₀ start k. (n ≡ length ends) × FaceAsking isEmpty corners ends (emptyRefused corners ends) start k)
-    (λ corners ends n start₀ k₀ start k. n - k)
-    (λ c. (refl, faces-start (c .before .before .pre) refl))
+    Inv-loop
+    μ-loop
+    loop-holds
     (λ c κs. search needs)
-    (λ c. faces-yes (c .before .before .before .loop .inv .1) (search needs) (c .before .corner .ensures .0) (empty-yes (c .before .before .before .loop .start) (c .before .corner .result) (c .before .before .before .before .before .before .args .corners .now) (search needs)))
-    (λ c. search needs)
-    (λ c. search needs)
-    (λ c. let l = c .before .before .before .loop .inv .1 in let q = c .before .corner .ensures .0 in let step = faces-step l (search needs) q in (c .before .before .before .loop .inv .0, faces-no l (search needs) q (empty-no (c .before .before .before .loop .start) (c .before .corner .result) (c .before .before .before .before .before .before .args .corners .now) (step .from) (step .upto) (c .if1 .left))))
-    (λ c. faces-end (c .before .loop .inv .1) (search needs)))
+    returns
+    (λ c. search needs) (λ c. search needs)
+    loop-again
+    returns-2)

@@ -1,3 +1,4 @@
+-- `cell::ends_refused` meets its contract: `fall` says whether an end before k falls, and with the ends from k on that is the definition.
 use mathlib.Core.Path.{_≡_, refl}
 use Prim.Native.Nat.{_-_, _<_}
 use native.Mathlib.Omega.{arith}
@@ -8,19 +9,44 @@ use borrow.Author.Needs.{needs}
 use Rattle.cell.proofs.ends_refused.Statement.{statement}
 use Rattle.cell.proofs.ends_refused.Tie as tie
 
+abbrev Inv-loop : tie.InvT-loop
+Inv-loop corners ends n fall₀ start₀ k₀ fall start k =
+    (n ≡ length ends) × (start < 4294967296) × Falling ends (length corners) (endsRefused corners ends) fall start k
+
+abbrev μ-loop : tie.MeasureT-loop
+μ-loop corners ends n fall₀ start₀ k₀ fall start k = n - k
+
+loop-holds : tie.Need-loop-holds Inv-loop μ-loop
+unfolding endsRefused
+loop-holds c = (refl, search needs, falls-start refl)
+
+loop-again : tie.Need-loop-again Inv-loop μ-loop
+unfolding endsRefused
+loop-again c =
+    let stored = c .before .stored in
+    let record { before = _; loop = loop } : tie.At-loop Inv-loop μ-loop = search in
+    (loop .inv .0, stored .ensures .1, falls-next (loop .inv .2) (search needs) (stored .ensures .0) (c .one-or-both .ensures))
+
+cast-one-or-both : tie.Need-cast-one-or-both Inv-loop μ-loop
+unfolding endsRefused
+cast-one-or-both c = omega (arith, c .before .loop .inv .1)
+
+returns : tie.Need-returns Inv-loop μ-loop
+unfolding endsRefused
+returns c =
+    let record { before = _; loop = loop } : tie.At-loop Inv-loop μ-loop = search in
+    falls-end (loop .inv .2) (search needs) (c .one-or-both2 .ensures)
+
 pub ends-refused-spec : {M : Type 1} → statement M
 unfolding endsRefused
 ends-refused-spec =
     tie.close
     (tie.spec
-    (λ corners ends n fall₀ start₀ k₀ fall start k. (n ≡ length ends) × (start < 4294967296) × Falling ends (length corners) (endsRefused corners ends) fall start k)
-    (λ corners ends n fall₀ start₀ k₀ fall start k. n - k)
-    (λ c. (refl, search needs, falls-start refl))
+    Inv-loop
+    μ-loop
+    loop-holds
+    (λ c κs. search needs) (λ c κs. search needs) (λ c. search needs) (λ c. search needs)
+    loop-again
+    cast-one-or-both
     (λ c κs. search needs)
-    (λ c κs. search needs)
-    (λ c. search needs)
-    (λ c. search needs)
-    (λ c. (c .before .before .before .loop .inv .0, c .before .stored .ensures .1, falls-next (c .before .before .before .loop .inv .2) (search needs) (c .before .stored .ensures .0) (c .one-or-both .ensures)))
-    (λ c. omega (arith, c .before .loop .inv .1))
-    (λ c κs. search needs)
-    (λ c. falls-end (c .before .before .loop .inv .2) (search needs) (c .one-or-both2 .ensures)))
+    returns)

@@ -1,3 +1,4 @@
+-- `cell::index_refused` meets its contract: after i turns `refused` says whether one of the first i numbers is not below n.
 use mathlib.Core.Path.{_≡_, refl}
 use Prim.Native.Nat.{_-_}
 use lib.ListN.{length}
@@ -7,18 +8,35 @@ use borrow.Author.Needs.{needs}
 use Rattle.cell.proofs.index_refused.Statement.{statement}
 use Rattle.cell.proofs.index_refused.Tie as tie
 
+abbrev Inv-loop : tie.InvT-loop
+Inv-loop n cs beyond m refused₀ i₀ refused i = (m ≡ length cs) × Taking (orTest (notBelow n)) cs (indexRefused n cs) i refused
+
+abbrev μ-loop : tie.MeasureT-loop
+μ-loop n cs beyond m refused₀ i₀ refused i = m - i
+
+loop-holds : tie.Need-loop-holds Inv-loop μ-loop
+unfolding indexRefused
+loop-holds c = (refl, take-start (any-taken (notBelow _) _))
+
+loop-again : tie.Need-loop-again Inv-loop μ-loop
+unfolding indexRefused
+loop-again c =
+    let record { before = _; loop = loop } : tie.At-loop Inv-loop μ-loop = search in
+    (loop .inv .0, take-next 0 (loop .inv .1) (search needs) (cc))
+
+returns : tie.Need-returns Inv-loop μ-loop
+unfolding indexRefused
+returns c = take-end (c .before .loop .inv .1) (search needs)
+
 pub index-refused-spec : {M : Type 1} → statement M
 unfolding indexRefused
 index-refused-spec =
     tie.close
     (tie.spec
-    (λ n cs beyond m refused₀ i₀ refused i. (m ≡ length cs) × Taking (orTest (notBelow n)) cs (indexRefused n cs) i refused)
-    (λ n cs beyond m refused₀ i₀ refused i. m - i)
+    Inv-loop
+    μ-loop
     (λ c. search needs)
-    (λ c. (refl, take-start (any-taken (notBelow _) _)))
-    (λ c κs. search needs)
-    (λ c κs. search needs)
-    (λ c. search needs)
-    (λ c. search needs)
-    (λ c. (c .before .before .before .loop .inv .0, take-next 0 (c .before .before .before .loop .inv .1) (search needs) (cc)))
-    (λ c. take-end (c .before .loop .inv .1) (search needs)))
+    loop-holds
+    (λ c κs. search needs) (λ c κs. search needs) (λ c. search needs) (λ c. search needs)
+    loop-again
+    returns)

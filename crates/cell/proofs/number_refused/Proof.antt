@@ -1,3 +1,4 @@
+-- `cell::number_refused` meets its contract: after i turns `refused` says whether one of the first i numbers is out of range.
 use mathlib.Core.Path.{_≡_, refl}
 use Prim.Native.Nat.{_-_}
 use lib.ListN.{length}
@@ -8,18 +9,34 @@ use borrow.Author.Needs.{needs}
 use Rattle.cell.proofs.number_refused.Statement.{statement}
 use Rattle.cell.proofs.number_refused.Tie as tie
 
+abbrev Inv-loop : tie.InvT-loop
+Inv-loop xs n refused₀ i₀ refused i = (n ≡ length xs) × Taking (orTest outOfRange) xs (numberRefused xs) i refused
+
+abbrev μ-loop : tie.MeasureT-loop
+μ-loop xs n refused₀ i₀ refused i = n - i
+
+loop-holds : tie.Need-loop-holds Inv-loop μ-loop
+unfolding numberRefused
+loop-holds c = (refl, take-start (any-taken outOfRange _))
+
+loop-again : tie.Need-loop-again Inv-loop μ-loop
+unfolding numberRefused
+loop-again c =
+    let record { before = _; loop = loop } : tie.At-loop Inv-loop μ-loop = search in
+    (loop .inv .0, take-next nan (loop .inv .1) (search needs) (cc))
+
+returns : tie.Need-returns Inv-loop μ-loop
+unfolding numberRefused
+returns c = take-end (c .before .loop .inv .1) (search needs)
+
 pub number-refused-spec : {M : Type 1} → statement M
 unfolding numberRefused
 number-refused-spec =
     tie.close
     (tie.spec
-    (λ xs n refused₀ i₀ refused i. (n ≡ length xs) × Taking (orTest outOfRange) xs (numberRefused xs) i refused)
-    (λ xs n refused₀ i₀ refused i. n - i)
-    (λ c. (refl, take-start (any-taken outOfRange _)))
-    (λ c κs. search needs)
-    (λ c κs. search needs)
-    (λ c κs. search needs)
-    (λ c. search needs)
-    (λ c. search needs)
-    (λ c. (c .before .before .before .before .loop .inv .0, take-next nan (c .before .before .before .before .loop .inv .1) (search needs) (cc)))
-    (λ c. take-end (c .before .loop .inv .1) (search needs)))
+    Inv-loop
+    μ-loop
+    loop-holds
+    (λ c κs. search needs) (λ c κs. search needs) (λ c κs. search needs) (λ c. search needs) (λ c. search needs)
+    loop-again
+    returns)

@@ -3,10 +3,17 @@ use Rattle.cell.specs.Refusals.{outOfRange}
 use Rattle.cell.proofs.out_of_range.Statement.{statement}
 use Rattle.cell.proofs.out_of_range.Tie as tie
 
-pub out-of-range-spec : {M : Type 1} → statement M
+returns : tie.Need-returns
 unfolding outOfRange
+returns c = rw (c .if1 .taken)
+
+returns-2 : tie.Need-returns-2
+unfolding outOfRange
+returns-2 c = rw (c .if1 .left)
+
+pub out-of-range-spec : {M : Type 1} → statement M
 out-of-range-spec =
     tie.close
     (tie.spec
-    (λ c. rw (c .if1 .taken))
-    (λ c. rw (c .if1 .left)))
+    returns
+    returns-2)

@@ -1,12 +1,22 @@
+-- `cell::points_refused` meets its contract: what is asked of the coordinates says the same of the vertices, a third as many.
 use Rattle.cell.proofs.Refusals.{not-in-threes, no-vertex, some-vertices}
 use borrow.Author.Needs.{needs}
 use Rattle.cell.proofs.points_refused.Statement.{statement}
 use Rattle.cell.proofs.points_refused.Tie as tie
 
+returns : tie.Need-returns
+returns c = not-in-threes _ (c .if1 .taken)
+
+returns-2 : tie.Need-returns-2
+returns-2 c = no-vertex _ (c .if2 .taken)
+
+returns-3 : tie.Need-returns-3
+returns-3 c = some-vertices _ (search needs) (c .if2 .left)
+
 pub points-refused-spec : {M : Type 1} → statement M
 points-refused-spec =
     tie.close
     (tie.spec
-    (λ c. not-in-threes _ (c .if1 .taken))
-    (λ c. no-vertex _ (c .if2 .taken))
-    (λ c. some-vertices _ (search needs) (c .if2 .left)))
+    returns
+    returns-2
+    returns-3)

@@ -1,8 +1,25 @@
+-- `cell::size_refused` meets its contract: the three tests are those of the definition, in its order.
 use borrow.Author.Tests.{lt-ltb, le-ltb}
 use Rattle.cell.specs.Refusals.{sizeRefused}
 use borrow.Author.Needs.{needs}
 use Rattle.cell.proofs.size_refused.Statement.{statement}
 use Rattle.cell.proofs.size_refused.Tie as tie
+
+returns : tie.Need-returns
+unfolding sizeRefused
+returns c = rw (← c .before .points-refused .ensures, c .if1 .taken)
+
+returns-2 : tie.Need-returns-2
+unfolding sizeRefused
+returns-2 c =
+    let record { before = _; points-refused = points-refused } : tie.After-points-refused = search in
+    rw (← points-refused .ensures, c .before .if1 .left, lt-ltb _ _ (c .if2 .taken))
+
+returns-3 : tie.Need-returns-3
+unfolding sizeRefused
+returns-3 c =
+    let record { before = _; points-refused = points-refused } : tie.After-points-refused = search in
+    rw (← points-refused .ensures, c .before .if1 .left, le-ltb _ _ (c .if2 .left))
 
 pub size-refused-spec : {M : Type 1} → statement M
 unfolding sizeRefused
@@ -10,6 +27,6 @@ size-refused-spec =
     tie.close
     (tie.spec
     (λ c κs. search needs)
-    (λ c. rw (← c .before .points-refused .ensures, c .if1 .taken))
-    (λ c. rw (← c .before .before .points-refused .ensures, c .before .if1 .left, lt-ltb _ _ (c .if2 .taken)))
-    (λ c. rw (← c .before .before .points-refused .ensures, c .before .if1 .left, le-ltb _ _ (c .if2 .left))))
+    returns
+    returns-2
+    returns-3)

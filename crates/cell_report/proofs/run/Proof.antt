@@ -11,7 +11,7 @@ use Rattle.records.specs.declared.tally.Tally.{Tally}
 use Rattle.records.specs.Tally.{Fits}
 use Rattle.report.specs.Report.{heldOf}
 use Rattle.report.specs.Split.{Running}
-use Rattle.report.proofs.Taken.{new-fits}
+use Rattle.report.proofs.Taken.{new-fits, still-sized}
 use Rattle.report.proofs.Split.{new-runs, runs-on}
 use borrow.Author.Needs.{needs}
 use Rattle.cell_report.proofs.run.Statement.{statement}
@@ -63,12 +63,7 @@ read-once-requires c κs =
     let pre = start .pre in
     let record { before = _; loop = loop } : tie.At-loop Inv-loop μ-loop = search in
     let i = loop .inv in (
-      record {
-        for-coords = omega (arith, i .for-coords, pre .0 .for-coords);
-        for-corners = omega (arith, i .for-corners, pre .0 .for-corners);
-        for-ends = omega (arith, i .for-ends, pre .0 .for-ends);
-        for-queries = omega (arith, i .for-queries, pre .0 .for-queries);
-      },
+      still-sized (pre .0) (i .for-coords) (i .for-corners) (i .for-ends) (i .for-queries),
       (i .fits, ((omega (arith, i .number), i .small, i .for-block ∙ pre .1 .0, omega (arith, i .for-out, pre .1 .1)), i .running)),
     )
 

@@ -1,26 +1,77 @@
+-- `clip::advance` meets its contract: its four returns are the four cases of `planeChange`, told apart by how many points of the outline
+-- were counted beyond the plane; only the last, the cut, writes to a list.
 use Rattle.clip.proofs.Cuts.{stretch-fits, shown-is, none-few, none-out, all-out, some-out}
+use mathlib.Core.Path.{_≡_}
 use native.Mathlib.Omega.{arith}
+use lib.ListN.{take}
+use Rattle.places.specs.Loops.{pick, countOf}
 use Rattle.flat.specs.Points.{verticesOf}
+use Rattle.clip.specs.Clip.{beyond}
 use Rattle.places.proofs.Stored.{length-threes}
 use borrow.Author.Needs.{needs}
 use Rattle.clip.proofs.advance.Statement.{statement}
 use Rattle.clip.proofs.advance.Tie as tie
 
+under-three : tie.Need-returns
+under-three c =
+    let args = c .before .before .before .args in
+    none-few (args .eps) (search needs) (search needs) (c .if1 .taken)
+
+mul-shown : tie.Need-mul-shown
+mul-shown c =
+    let start : tie.Start = search in
+    omega (arith, length-threes (start .args .first .now))
+
+shown-requires : tie.Need-shown-requires
+shown-requires c κs =
+    let start : tie.Start = search in
+    let args = start .args in
+    stretch-fits (args .in-second) (args .n) (args .first .now) (args .second .now) (search needs) (search needs)
+
+-- what is shown of the list is the outline, so the points were counted in it
+counted : (c : tie.After-count-out) → let start : tie.Start = search in
+    c .count-out .result ≡ countOf (beyond (start .args .plane) (start .args .eps))
+    (take (start .args .n) (pick (start .args .in-second) (verticesOf (start .args .second .now)) (verticesOf (start .args .first .now))))
+counted c =
+    let start : tie.Start = search in
+    let args = start .args in
+    rw (← shown-is (args .in-second) (args .n) (args .first .now) (args .second .now), ← c .before .shown .ensures)
+    (c .count-out .ensures)
+
+none-beyond : tie.Need-returns-2
+none-beyond c =
+    let start : tie.Start = search in
+    let three : tie.Else1 = search in
+    none-out (start .args .eps) (search needs) (search needs) (three .if1 .left) (counted (c .before)) (c .if2 .taken)
+
+all-beyond : tie.Need-returns-3
+all-beyond c =
+    let start : tie.Start = search in
+    let three : tie.Else1 = search in
+    let count : tie.After-count-out = search in
+    all-out (start .args .eps) (search needs) (search needs) (three .if1 .left) (counted count) (c .before .if2 .left) (c .if3 .taken)
+
+some-beyond : tie.Need-returns-4
+some-beyond c =
+    let start : tie.Start = search in
+    let three : tie.Else1 = search in
+    let count : tie.After-count-out = search in
+    let some : tie.Else2 = search in
+    let not-all : tie.Else3 = search in
+    let done : tie.After-cut-from = search in
+    some-out (start .args .eps) (search needs) (search needs) (three .if1 .left) (counted count) (some .if2 .left) (not-all .if3 .left)
+    (done .cut-from .ensures)
+
 pub advance-spec : {M : Type 1} → statement M
 advance-spec =
     tie.close
     (tie.spec
-    (λ c. none-few (c .before .before .before .args .room) (c .before .before .before .args .n) (c .before .before .before .args .eps) (c .before .before .before .args .plane) (c .before .before .before .args .in-second) (verticesOf (c .before .before .before .args .first .now)) (verticesOf (c .before .before .before .args .second .now)) (search needs) (search needs) (c .if1 .taken))
-    (λ c. omega (arith, length-threes (c .before .before .before .before .before .args .first .now)))
-    (λ c κs. stretch-fits (c .before .before .before .before .before .args .in-second) (c .before .before .before .before .before .args .n) (c .before .before .before .before .before .args .first .now) (c .before .before .before .before .before .args .second .now) (search needs) (search needs))
-    (λ c κs. search needs)
-    (λ c. search needs)
-    (λ c. search needs)
-    (λ c. none-out (c .before .before .before .before .before .before .before .before .args .room) (c .before .before .before .before .before .before .before .before .args .n) (c .before .before .before .before .before .before .before .before .args .eps) (c .before .before .before .before .before .before .before .before .args .plane) (c .before .before .before .before .before .before .before .before .args .in-second) (verticesOf (c .before .before .before .before .before .before .before .before .args .first .now)) (verticesOf (c .before .before .before .before .before .before .before .before .args .second .now)) (search needs) (search needs) (c .before .before .before .before .before .if1 .left) (rw (← shown-is (c .before .before .before .before .before .before .before .before .args .in-second) (c .before .before .before .before .before .before .before .before .args .n) (c .before .before .before .before .before .before .before .before .args .first .now) (c .before .before .before .before .before .before .before .before .args .second .now), ← c .before .before .shown .ensures) (c .before .count-out .ensures)) (c .if2 .taken))
-    (λ c. search needs)
-    (λ c. search needs)
-    (λ c. all-out (c .before .before .before .before .before .before .before .before .before .args .room) (c .before .before .before .before .before .before .before .before .before .args .n) (c .before .before .before .before .before .before .before .before .before .args .eps) (c .before .before .before .before .before .before .before .before .before .args .plane) (c .before .before .before .before .before .before .before .before .before .args .in-second) (verticesOf (c .before .before .before .before .before .before .before .before .before .args .first .now)) (verticesOf (c .before .before .before .before .before .before .before .before .before .args .second .now)) (search needs) (search needs) (c .before .before .before .before .before .before .if1 .left) (rw (← shown-is (c .before .before .before .before .before .before .before .before .before .args .in-second) (c .before .before .before .before .before .before .before .before .before .args .n) (c .before .before .before .before .before .before .before .before .before .args .first .now) (c .before .before .before .before .before .before .before .before .before .args .second .now), ← c .before .before .before .shown .ensures) (c .before .before .count-out .ensures)) (c .before .if2 .left) (c .if3 .taken))
-    (λ c κs. search needs)
-    (λ c. search needs)
-    (λ c. search needs)
-    (λ c. some-out (c .before .before .before .before .before .before .before .before .before .before .before .before .before .before .before .before .args .room) (c .before .before .before .before .before .before .before .before .before .before .before .before .before .before .before .before .args .n) (c .before .before .before .before .before .before .before .before .before .before .before .before .before .before .before .before .args .eps) (c .before .before .before .before .before .before .before .before .before .before .before .before .before .before .before .before .args .plane) (c .before .before .before .before .before .before .before .before .before .before .before .before .before .before .before .before .args .in-second) (verticesOf (c .before .before .before .before .before .before .before .before .before .before .before .before .before .before .before .before .args .first .now)) (verticesOf (c .before .before .before .before .before .before .before .before .before .before .before .before .before .before .before .before .args .second .now)) (search needs) (search needs) (c .before .before .before .before .before .before .before .before .before .before .before .before .before .if1 .left) (rw (← shown-is (c .before .before .before .before .before .before .before .before .before .before .before .before .before .before .before .before .args .in-second) (c .before .before .before .before .before .before .before .before .before .before .before .before .before .before .before .before .args .n) (c .before .before .before .before .before .before .before .before .before .before .before .before .before .before .before .before .args .first .now) (c .before .before .before .before .before .before .before .before .before .before .before .before .before .before .before .before .args .second .now), ← c .before .before .before .before .before .before .before .before .before .before .shown .ensures) (c .before .before .before .before .before .before .before .before .before .count-out .ensures)) (c .before .before .before .before .before .before .before .before .if2 .left) (c .before .before .before .before .before .before .before .if3 .left) (c .before .before .before .before .cut-from .ensures)))
+    under-three
+    mul-shown
+    shown-requires
+    (λ c κs. search needs) (λ c. search needs) (λ c. search needs)
+    none-beyond
+    (λ c. search needs) (λ c. search needs)
+    all-beyond
+    (λ c κs. search needs) (λ c. search needs) (λ c. search needs)
+    some-beyond)

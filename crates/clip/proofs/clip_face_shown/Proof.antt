@@ -1,15 +1,28 @@
+-- `clip::clip_face_shown` meets its contract: `clip_face` ends with the outline at the front of its list, and `settle_answer` then clears
+-- every number but those that the answer shows.
 use Rattle.work_lists.proofs.Endings.{reads-threes}
 use Rattle.work_lists.proofs.Clearing.{shown-fits, settled}
 use borrow.Author.Needs.{needs}
 use Rattle.clip.proofs.clip_face_shown.Statement.{statement}
 use Rattle.clip.proofs.clip_face_shown.Tie as tie
 
+settle-answer-requires : tie.Need-settle-answer-requires
+settle-answer-requires c κs =
+    let clip-face = c .before .before .before .before .before .before .clip-face in
+    shown-fits reads-threes (clip-face .ensures)
+
+returns : tie.Need-returns
+returns c =
+    let settle-answer = c .before .before .before .before .settle-answer in
+    let record { before = _; clip-face = clip-face } : tie.After-clip-face = search in
+    settled reads-threes (clip-face .ensures) (clip-face .kept .1 .1 .1 .1 .0) (clip-face .kept .1 .1 .1 .1 .1 .0)
+    (settle-answer .ensures .0) (settle-answer .ensures .1)
+
 pub clip-face-shown-spec : {M : Type 1} → statement M
 clip-face-shown-spec =
     tie.close
     (tie.spec
     (λ c κs. search needs)
-    (λ c κs. shown-fits reads-threes (c .before .before .before .before .before .before .clip-face .ensures))
-    (λ c. search needs)
-    (λ c. search needs)
-    (λ c. settled reads-threes (c .before .before .before .before .before .before .before .before .before .before .before .clip-face .ensures) (c .before .before .before .before .before .before .before .before .before .before .before .clip-face .kept .1 .1 .1 .1 .0) (c .before .before .before .before .before .before .before .before .before .before .before .clip-face .kept .1 .1 .1 .1 .1 .0) (c .before .before .before .before .settle-answer .ensures .0) (c .before .before .before .before .settle-answer .ensures .1)))
+    settle-answer-requires
+    (λ c. search needs) (λ c. search needs)
+    returns)

@@ -1,3 +1,5 @@
+-- `clip::count_out` meets its contract: the points beyond the plane among those before place i, and those that are left to count, make the
+-- whole count.
 use native.Mathlib.Nat.{add-zero}
 use mathlib.Core.Path.{_≡_, refl, sym}
 use mathlib.Core.Logic.{⊎-elim}
@@ -13,17 +15,37 @@ use borrow.Author.Needs.{needs}
 use Rattle.clip.proofs.count_out.Statement.{statement}
 use Rattle.clip.proofs.count_out.Tie as tie
 
+abbrev Inv-loop : tie.InvT-loop
+Inv-loop src plane eps n out₀ i₀ out i =
+    (n ≡ length (verticesOf src)) ×
+    Counting (beyond plane eps) (verticesOf src) (countOf (beyond plane eps) (verticesOf src)) i out
+
+abbrev μ-loop : tie.MeasureT-loop
+μ-loop src plane eps n out₀ i₀ out i = n - i
+
+loop-holds : tie.Need-loop-holds Inv-loop μ-loop
+loop-holds c = (sym (length-threes (c .before .args .src .now)), count-start refl)
+
+loop-again : tie.Need-loop-again Inv-loop μ-loop
+loop-again c =
+    let vertex = c .before .before .vertex in
+    let loop = c .before .before .before .before .loop in (
+      loop .inv .0,
+      count-next [] (loop .inv .1) (search needs)
+          (rw (← (vertex .ensures), ← (c .before .distance .ensures))
+          (⊎-elim (λ w. rw (w .0 .taken) (w .1)) (λ w. rw (w .0 .left, add-zero) (w .1)) (c .if1 .came))),
+    )
+
+returns : tie.Need-returns Inv-loop μ-loop
+returns c = count-end (c .before .loop .inv .1) (search needs)
+
 pub count-out-spec : {M : Type 1} → statement M
 count-out-spec =
     tie.close
     (tie.spec
-    (λ src plane eps n out₀ i₀ out i. (n ≡ length (verticesOf src)) × Counting (beyond plane eps) (verticesOf src) (countOf (beyond plane eps) (verticesOf src)) i out)
-    (λ src plane eps n out₀ i₀ out i. n - i)
-    (λ c. (sym (length-threes (c .before .args .src .now)), count-start refl))
-    (λ c κs. search needs)
-    (λ c κs. search needs)
-    (λ c. search needs)
-    (λ c. search needs)
-    (λ c. search needs)
-    (λ c. (c .before .before .before .before .loop .inv .0, count-next [] (c .before .before .before .before .loop .inv .1) (search needs) (rw (← (c .before .before .vertex .ensures), ← (c .before .distance .ensures)) (⊎-elim (λ w. rw (w .0 .taken) (w .1)) (λ w. rw (w .0 .left, add-zero) (w .1)) (c .if1 .came)))))
-    (λ c. count-end (c .before .loop .inv .1) (search needs)))
+    Inv-loop
+    μ-loop
+    loop-holds
+    (λ c κs. search needs) (λ c κs. search needs) (λ c. search needs) (λ c. search needs) (λ c. search needs)
+    loop-again
+    returns)

@@ -1,3 +1,5 @@
+-- `clip::gather` meets its contract: the corners before place i stand at the front of the list, and those left to lay down make, with them,
+-- the whole face.
 use mathlib.Core.Path.{_≡_, refl, _∙_}
 use mathlib.Core.List.{[]}
 use Prim.Native.Nat.{_-_}
@@ -10,17 +12,49 @@ use borrow.Author.Needs.{needs}
 use Rattle.clip.proofs.gather.Statement.{statement}
 use Rattle.clip.proofs.gather.Tie as tie
 
+abbrev Inv-loop : tie.InvT-loop
+Inv-loop coords face dst₀ n i₀ dst i =
+    (n ≡ length face) × (length dst ≡ length dst₀) ×
+    Rest (cornersOf (verticesOf coords) face) (verticesOf dst₀) i (drop i (cornersOf (verticesOf coords) face)) (verticesOf dst)
+
+abbrev μ-loop : tie.MeasureT-loop
+μ-loop coords face dst₀ n i₀ dst i = n - i
+
+loop-holds : tie.Need-loop-holds Inv-loop μ-loop
+loop-holds c = (refl, refl, rest-start)
+
+put-vertex-requires : tie.Need-put-vertex-requires Inv-loop μ-loop
+put-vertex-requires c κs =
+    let loop = c .before .before .before .loop in
+    omega (arith, rest-length (loop .inv .2))
+
+loop-again : tie.Need-loop-again Inv-loop μ-loop
+loop-again c =
+    let put-vertex = c .before .before .put-vertex in
+    let vertex-at = c .before .before .before .vertex-at in
+    let loop = c .before .before .before .before .before .before .loop in (
+      loop .inv .0,
+      put-vertex .kept .0 ∙ loop .inv .1,
+      lay-next [] (loop .inv .2) (rw length-corners (search needs)) (vertex-at .ensures) (put-vertex .ensures .0),
+    )
+
+returns : tie.Need-returns Inv-loop μ-loop
+returns c =
+    let start : tie.Start Inv-loop μ-loop = search in
+    let args = start .args in
+    rw (← length-corners (verticesOf (args .coords .now)) (args .face .now))
+    (lay-end (c .before .loop .inv .2) (rw length-corners (search needs)) (rw length-corners (search needs)))
+
 pub gather-spec : {M : Type 1} → statement M
 gather-spec =
     tie.close
     (tie.spec
-    (λ coords face dst₀ n i₀ dst i. (n ≡ length face) × (length dst ≡ length dst₀) × Rest (cornersOf (verticesOf coords) face) (verticesOf dst₀) i (drop i (cornersOf (verticesOf coords) face)) (verticesOf dst))
-    (λ coords face dst₀ n i₀ dst i. n - i)
-    (λ c. (refl, refl, rest-start))
+    Inv-loop
+    μ-loop
+    loop-holds
     (λ c κs. search needs)
-    (λ c κs. omega (arith, rest-length (c .before .before .before .loop .inv .2)))
+    put-vertex-requires
+    (λ c. search needs) (λ c. search needs)
+    loop-again
     (λ c. search needs)
-    (λ c. search needs)
-    (λ c. (c .before .before .before .before .before .before .loop .inv .0, c .before .before .put-vertex .kept .0 ∙ c .before .before .before .before .before .before .loop .inv .1, lay-next [] (c .before .before .before .before .before .before .loop .inv .2) (rw length-corners (search needs)) (c .before .before .before .vertex-at .ensures) (c .before .before .put-vertex .ensures .0)))
-    (λ c. c .before .loop .inv .1)
-    (λ c. rw (← length-corners (verticesOf (c .before .before .before .before .before .args .coords .now)) (c .before .before .before .before .before .args .face .now)) (lay-end (c .before .loop .inv .2) (rw length-corners (search needs)) (rw length-corners (search needs)))))
+    returns)

@@ -1,45 +1,104 @@
-use mathlib.Core.Path.{_≡_, refl, sym, _∙_}
+-- `clip::run` meets its contract: the planes that are left, run from the outline that stands, make the whole outcome; each answer of
+-- `advance` keeps that or ends the run, by the laws of the alternation.
+use mathlib.Core.Path.{_≡_, refl, sym}
 use mathlib.Core.Bool.{false}
 use Prim.Native.Nat.{_-_}
 use lib.ListN.{length, take}
-use Rattle.flat.specs.Points.{verticesOf}
+use Rattle.places.specs.Stored.{inThrees}
 use Rattle.planes.specs.Planes.{inFours}
 use Rattle.planes.specs.Steps.{noPlane}
 use Rattle.planes.proofs.Stored.{length-fours}
-use Rattle.work_lists.specs.WorkLists.{runOf}
-use Rattle.work_lists.proofs.Alternation.{Alternating, alternate-start, alternate-gone, alternate-full, alternate-kept, alternate-made, alternate-none, alternate-end}
+use Rattle.work_lists.specs.WorkLists.{outline, runOf}
+use Rattle.work_lists.proofs.Alternation.{Alternating, alternate-start, alternate-gone, alternate-full, alternate-kept, alternate-made}
+use Rattle.work_lists.proofs.Alternation.{alternate-none, alternate-end}
 use Rattle.clip.specs.Clip.{planeChange}
 use borrow.Author.Needs.{needs}
 use Rattle.clip.proofs.run.Statement.{statement}
 use Rattle.clip.proofs.run.Tie as tie
 
+abbrev Inv-loop : tie.InvT-loop
+Inv-loop first₀ second₀ count room planes eps many n₀ in-second₀ i₀ first second n in-second i =
+    (many ≡ length (inFours planes)) ×
+    Alternating inThrees room (planeChange room eps) (inFours planes)
+    (runOf (planeChange room eps) (inFours planes) (outline false (take count (inThrees first₀)))) first₀ second₀ i n in-second
+    first second
+
+abbrev μ-loop : tie.MeasureT-loop
+μ-loop first₀ second₀ count room planes eps many n₀ in-second₀ i₀ first second n in-second i = many - i
+
+loop-holds : tie.Need-loop-holds Inv-loop μ-loop
+loop-holds c =
+    let args = c .before .before .before .args in
+    (sym (length-fours (args .planes .now)), alternate-start (search needs) (search needs) (search needs) refl)
+
+stays-whole : tie.Need-loop-again Inv-loop μ-loop
+stays-whole c =
+    let advance = c .before .before .before .before .before .before .advance in
+    let record { before = _; plane-at = plane-at } : tie.After-plane-at Inv-loop μ-loop = search in
+    let record { before = _; loop = loop } : tie.At-loop Inv-loop μ-loop = search in (
+      loop .inv .0,
+      alternate-kept (loop .inv .1) noPlane (search needs) (plane-at .ensures) (advance .kept .0) (advance .kept .1 .0)
+          (rw (c .enum-told .given .1) at (advance .ensures)),
+    )
+
+nothing-left : tie.Need-returns Inv-loop μ-loop
+nothing-left c =
+    let advance = c .before .before .before .before .before .before .advance in
+    let record { before = _; plane-at = plane-at } : tie.After-plane-at Inv-loop μ-loop = search in
+    let record { before = _; loop = loop } : tie.At-loop Inv-loop μ-loop = search in
+    alternate-gone (loop .inv .1) noPlane (search needs) (plane-at .ensures)
+    (rw (c .enum-told2 .given .1) at (advance .ensures))
+
+no-room : tie.Need-returns-2 Inv-loop μ-loop
+no-room c =
+    let advance = c .before .before .before .before .before .before .advance in
+    let record { before = _; plane-at = plane-at } : tie.After-plane-at Inv-loop μ-loop = search in
+    let record { before = _; loop = loop } : tie.At-loop Inv-loop μ-loop = search in
+    alternate-full (loop .inv .1) noPlane (search needs) (plane-at .ensures)
+    (rw (c .enum-told3 .given .1) at (advance .ensures))
+
+goes-on : tie.Need-loop-again-2 Inv-loop μ-loop
+goes-on c =
+    let advance = c .before .before .before .before .before .before .before .advance in
+    let record { before = _; plane-at = plane-at } : tie.After-plane-at Inv-loop μ-loop = search in
+    let record { before = _; loop = loop } : tie.At-loop Inv-loop μ-loop = search in (
+      loop .inv .0,
+      alternate-made (loop .inv .1) noPlane (search needs) (plane-at .ensures) (advance .kept .0) (advance .kept .1 .0)
+          (rw (c .before .left .given .1) at (advance .ensures)),
+    )
+
+no-points : tie.Need-returns-3 Inv-loop μ-loop
+no-points c =
+    let loop = c .before .before .loop in
+    alternate-none (loop .inv .1) (search needs) (c .if1 .taken)
+
+outline-left : tie.Need-returns-4 Inv-loop μ-loop
+outline-left c =
+    let loop = c .before .before .loop in
+    alternate-end (loop .inv .1) (search needs) (c .if1 .left)
+
 pub run-spec : {M : Type 1} → statement M
 run-spec =
     tie.close
     (tie.spec
-    (λ first₀ second₀ count room planes eps many n₀ in-second₀ i₀ first second n in-second i. (many ≡ length (inFours planes)) × (length first ≡ length first₀) × (length second ≡ length second₀) × Alternating room (planeChange room eps) (inFours planes) (runOf (planeChange room eps) (inFours planes) false (take count (verticesOf first₀))) i n in-second (verticesOf first) (verticesOf second))
-    (λ first₀ second₀ count room planes eps many n₀ in-second₀ i₀ first second n in-second i. many - i)
-    (λ c. (sym (length-fours (c .before .before .before .args .planes .now)), refl, refl, alternate-start (search needs) (search needs) (search needs) refl))
-    (λ c κs. search needs)
-    (λ c. search needs)
-    (λ c κs. search needs)
-    (λ c. search needs)
-    (λ c. search needs)
-    (λ c. (c .before .before .before .before .before .before .before .before .before .before .before .loop .inv .0, c .before .before .before .before .before .before .advance .kept .0 ∙ c .before .before .before .before .before .before .before .before .before .before .before .loop .inv .1, c .before .before .before .before .before .before .advance .kept .1 .0 ∙ c .before .before .before .before .before .before .before .before .before .before .before .loop .inv .2, alternate-kept (c .before .before .before .before .before .before .before .before .before .before .before .loop .inv .3) noPlane (search needs) (c .before .before .before .before .before .before .before .before .before .plane-at .ensures) (rw (c .enum-told .given .1) at (c .before .before .before .before .before .before .advance .ensures))))
-    (λ c. search needs)
-    (λ c. c .before .before .before .before .before .before .advance .kept .0 ∙ c .before .before .before .before .before .before .before .before .before .before .before .loop .inv .1)
-    (λ c. c .before .before .before .before .before .before .advance .kept .1 .0 ∙ c .before .before .before .before .before .before .before .before .before .before .before .loop .inv .2)
-    (λ c. alternate-gone (c .before .before .before .before .before .before .before .before .before .before .before .loop .inv .3) noPlane (search needs) (c .before .before .before .before .before .before .before .before .before .plane-at .ensures) (rw (c .enum-told2 .given .1) at (c .before .before .before .before .before .before .advance .ensures)))
-    (λ c. search needs)
-    (λ c. c .before .before .before .before .before .before .advance .kept .0 ∙ c .before .before .before .before .before .before .before .before .before .before .before .loop .inv .1)
-    (λ c. c .before .before .before .before .before .before .advance .kept .1 .0 ∙ c .before .before .before .before .before .before .before .before .before .before .before .loop .inv .2)
-    (λ c. alternate-full (c .before .before .before .before .before .before .before .before .before .before .before .loop .inv .3) noPlane (search needs) (c .before .before .before .before .before .before .before .before .before .plane-at .ensures) (rw (c .enum-told3 .given .1) at (c .before .before .before .before .before .before .advance .ensures)))
+    Inv-loop
+    μ-loop
+    loop-holds
+    (λ c κs. search needs) (λ c. search needs) (λ c κs. search needs) (λ c. search needs) (λ c. search needs)
+    stays-whole
     (λ c. search needs)
     (λ c. search needs)
-    (λ c. (c .before .before .before .before .before .before .before .before .before .before .before .before .loop .inv .0, c .before .before .before .before .before .before .before .advance .kept .0 ∙ c .before .before .before .before .before .before .before .before .before .before .before .before .loop .inv .1, c .before .before .before .before .before .before .before .advance .kept .1 .0 ∙ c .before .before .before .before .before .before .before .before .before .before .before .before .loop .inv .2, alternate-made (c .before .before .before .before .before .before .before .before .before .before .before .before .loop .inv .3) noPlane (search needs) (c .before .before .before .before .before .before .before .before .before .before .plane-at .ensures) (rw (c .before .left .given .1) at (c .before .before .before .before .before .before .before .advance .ensures))))
-    (λ c. c .before .before .loop .inv .1)
-    (λ c. c .before .before .loop .inv .2)
-    (λ c. alternate-none (c .before .before .loop .inv .3) (search needs) (c .if1 .taken))
-    (λ c. c .before .before .loop .inv .1)
-    (λ c. c .before .before .loop .inv .2)
-    (λ c. alternate-end (c .before .before .loop .inv .3) (search needs) (c .if1 .left)))
+    (λ c. search needs)
+    nothing-left
+    (λ c. search needs)
+    (λ c. search needs)
+    (λ c. search needs)
+    no-room
+    (λ c. search needs) (λ c. search needs)
+    goes-on
+    (λ c. search needs)
+    (λ c. search needs)
+    no-points
+    (λ c. search needs)
+    (λ c. search needs)
+    outline-left)

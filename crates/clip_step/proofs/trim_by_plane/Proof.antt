@@ -1,3 +1,5 @@
+-- `clip_step::trim_by_plane` meets its contract: what the sides from place i on leave makes, with what was laid down, the whole; a is the
+-- point before place i, and da its distance.
 use mathlib.Core.Path.{_≡_, refl, sym, _∙_}
 use native.Mathlib.Omega.{arith}
 use Prim.Native.Nat.{_-_, zero-le}
@@ -11,21 +13,74 @@ use borrow.Author.Needs.{needs}
 use Rattle.clip_step.proofs.trim_by_plane.Statement.{statement}
 use Rattle.clip_step.proofs.trim_by_plane.Tie as tie
 
+abbrev Inv-loop : tie.InvT-loop
+Inv-loop src dst₀ plane eps n a₀ da₀ m₀ i₀ dst a da m i =
+    (n ≡ length (verticesOf src)) × (length dst ≡ length dst₀) × (da ≡ distanceOf plane a) ×
+    Trimming (within plane eps) (crossPlane plane) (verticesOf src) (trimmedBy plane eps (verticesOf src)) (verticesOf dst₀) a i
+    m (verticesOf dst)
+
+abbrev μ-loop : tie.MeasureT-loop
+μ-loop src dst₀ plane eps n a₀ da₀ m₀ i₀ dst a da m i = n - i
+
+sub-vertex : tie.Need-sub-vertex Inv-loop μ-loop
+sub-vertex c =
+    let args = c .before .before .args in
+    omega (arith, length-threes (args .src .now))
+
+vertex-requires : tie.Need-vertex-requires Inv-loop μ-loop
+vertex-requires c κs =
+    let args = c .before .before .args in
+    omega (arith, length-threes (args .src .now))
+
+loop-holds : tie.Need-loop-holds Inv-loop μ-loop
+loop-holds c =
+    let args = c .before .before .before .before .args in (
+      sym (length-threes (args .src .now)),
+      refl,
+      c .distance .ensures,
+      trimming-start zero-le
+          (trimmed-last (args .plane) (args .eps) (verticesOf (args .src .now))
+          (rw (length-threes (args .src .now)) (c .before .vertex .ensures))),
+    )
+
+emit-requires : tie.Need-emit-requires Inv-loop μ-loop
+emit-requires c κs =
+    let loop = c .before .before .before .before .loop in
+    let start : tie.Start Inv-loop μ-loop = search in
+    omega (arith, length-threes (start .args .src .now), loop .inv .3 .few)
+
+loop-again : tie.Need-loop-again Inv-loop μ-loop
+loop-again c =
+    let emit = c .before .before .emit in
+    let distance2 = c .before .before .before .before .distance2 in
+    let vertex2 = c .before .before .before .before .before .vertex2 in
+    let loop-test = c .before .before .before .before .before .before .loop-test in
+    let loop = c .before .before .before .before .before .before .before .loop in (
+      loop .inv .0,
+      emit .kept .0 ∙ loop .inv .1,
+      distance2 .ensures,
+      trimming-more (loop .inv .3) (omega (arith, loop .inv .0, loop-test .taken)) (vertex2 .ensures)
+          (rw (loop .inv .2, distance2 .ensures) at (emit .ensures)),
+    )
+
+returns : tie.Need-returns Inv-loop μ-loop
+returns c =
+    let loop = c .before .loop in
+    trimming-end (loop .inv .3) (omega (arith, loop .inv .0, c .loop-test .left))
+
 pub trim-by-plane-spec : {M : Type 1} → statement M
 trim-by-plane-spec =
     tie.close
     (tie.spec
-    (λ src dst₀ plane eps n a₀ da₀ m₀ i₀ dst a da m i. (n ≡ length (verticesOf src)) × (length dst ≡ length dst₀) × (da ≡ distanceOf plane a) × Trimming (within plane eps) (crossPlane plane) (verticesOf src) (trimmedBy plane eps (verticesOf src)) (verticesOf dst₀) a i m (verticesOf dst))
-    (λ src dst₀ plane eps n a₀ da₀ m₀ i₀ dst a da m i. n - i)
-    (λ c. omega (arith, length-threes (c .before .before .args .src .now)))
-    (λ c κs. omega (arith, length-threes (c .before .before .args .src .now)))
+    Inv-loop
+    μ-loop
+    sub-vertex
+    vertex-requires
     (λ c κs. search needs)
-    (λ c. (sym (length-threes (c .before .before .before .before .args .src .now)), refl, c .distance .ensures, trimming-start zero-le (trimmed-last (c .before .before .before .before .args .plane) (c .before .before .before .before .args .eps) (verticesOf (c .before .before .before .before .args .src .now)) (rw (length-threes (c .before .before .before .before .args .src .now)) (c .before .vertex .ensures)))))
-    (λ c κs. search needs)
-    (λ c κs. search needs)
-    (λ c κs. omega (arith, length-threes (c .before .before .before .before .before .before .before .before .before .args .src .now), c .before .before .before .before .loop .inv .3 .few))
+    loop-holds
+    (λ c κs. search needs) (λ c κs. search needs)
+    emit-requires
+    (λ c. search needs) (λ c. search needs)
+    loop-again
     (λ c. search needs)
-    (λ c. search needs)
-    (λ c. (c .before .before .before .before .before .before .before .loop .inv .0, c .before .before .emit .kept .0 ∙ c .before .before .before .before .before .before .before .loop .inv .1, c .before .before .before .before .distance2 .ensures, trimming-more (c .before .before .before .before .before .before .before .loop .inv .3) (omega (arith, c .before .before .before .before .before .before .before .loop .inv .0, c .before .before .before .before .before .before .loop-test .taken)) (c .before .before .before .before .before .vertex2 .ensures) (rw (c .before .before .before .before .before .before .before .loop .inv .2, c .before .before .before .before .distance2 .ensures) at (c .before .before .emit .ensures))))
-    (λ c. c .before .loop .inv .1)
-    (λ c. trimming-end (c .before .loop .inv .3) (omega (arith, c .before .loop .inv .0, c .loop-test .left))))
+    returns)

@@ -1,25 +1,40 @@
+-- `cut::fill_numbers` meets its contract: the face's numbers stored at the places from i on make the list the whole face.
 use mathlib.Core.Path.{_≡_, refl}
 use Prim.Native.Nat.{_-_}
-use lib.ListN.{length, length-set}
-use Rattle.places.proofs.Folding.{Folding, fold-start, fold-next, fold-end}
-use Rattle.places.proofs.Lists.{fill, look, same, fill-copy}
+use native.Mathlib.Omega.{arith}
+use lib.ListN.{length, getD}
+use Rattle.places.proofs.Folding.{fold-start}
+use Rattle.places.proofs.Lists.{fill-copy}
+use Rattle.cut.proofs.Storing.{Storing, store-next, store-end}
 use borrow.Author.Needs.{needs}
 use Rattle.cut.proofs.fill_numbers.Statement.{statement}
 use Rattle.cut.proofs.fill_numbers.Tie as tie
+
+abbrev Inv-loop : tie.InvT-loop
+Inv-loop face ns₀ n i₀ ns i = (n ≡ length face) × Storing (λ k s. getD face k 0) (length face) (length face) face i ns
+
+abbrev μ-loop : tie.MeasureT-loop
+μ-loop face ns₀ n i₀ ns i = n - i
+
+loop-holds : tie.Need-loop-holds Inv-loop μ-loop
+loop-holds c = (refl, record { long = c .pre; folding = fold-start (fill-copy 0 _ _ (c .pre)) })
+
+loop-again : tie.Need-loop-again Inv-loop μ-loop
+loop-again c =
+    let loop = c .before .before .loop in
+    (loop .inv .0, store-next (loop .inv .1) (omega arith) refl)
+
+returns : tie.Need-returns Inv-loop μ-loop
+returns c = store-end (c .before .loop .inv .1) (omega arith)
 
 pub fill-numbers-spec : {M : Type 1} → statement M
 fill-numbers-spec =
     tie.close
     (tie.spec
-    (λ face ns₀ n i₀ ns i. (n ≡ length face) × (length ns ≡ length face) × Folding (fill (look 0 same face)) (length face) face i ns)
-    (λ face ns₀ n i₀ ns i. n - i)
-    (λ c. (refl, c .pre, fold-start (fill-copy 0 _ _ (c .pre))))
+    Inv-loop
+    μ-loop
+    loop-holds
+    (λ c. search needs) (λ c. search needs) (λ c. search needs) (λ c. search needs) (λ c. search needs) (λ c. search needs)
+    loop-again
     (λ c. search needs)
-    (λ c. search needs)
-    (λ c. search needs)
-    (λ c. search needs)
-    (λ c. search needs)
-    (λ c. search needs)
-    (λ c. (c .before .before .loop .inv .0, simp length-set (c .before .before .loop .inv .1), fold-next (c .before .before .loop .inv .2) (search needs) refl))
-    (λ c. search needs)
-    (λ c. fold-end (c .before .loop .inv .2) (search needs)))
+    returns)

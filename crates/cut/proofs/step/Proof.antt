@@ -1,3 +1,4 @@
+-- `cut::step` meets its contract: the corner that was found is on the ring, so `cut_at` may cut it; where none was found nothing changes.
 use mathlib.Core.Path.{_≡_, refl}
 use native.Mathlib.Omega.{arith}
 use Rattle.places.specs.declared.Found.the-variants.{At, Nothing}
@@ -7,20 +8,36 @@ use borrow.Author.Needs.{needs}
 use Rattle.cut.proofs.step.Statement.{statement}
 use Rattle.cut.proofs.step.Tie as tie
 
+cut-at-requires : tie.Need-cut-at-requires
+cut-at-requires c κs =
+    let f = c .before .before .before .before .f in
+    let start : tie.Start = search in
+    let args = start .args in
+    let e : findCorner (args .ps .now) (args .dir) ≡ At (f .given .0 .0) = cc in
+    omega (arith, choose-below (args .ps .now) (args .dir) (f .given .0 .0) e)
+
+returns : tie.Need-returns
+returns c =
+    let start : tie.Start = search in
+    let args = start .args in
+    let e : findCorner (args .ps .now) (args .dir) ≡ Nothing = cc in
+    record { did = rw e (refl, refl, refl, refl) }
+
+returns-2 : tie.Need-returns-2
+returns-2 c =
+    let record { before = _; f = f } : tie.After-f = search in
+    let start : tie.Start = search in
+    let args = start .args in
+    let e : findCorner (args .ps .now) (args .dir) ≡ At (f .given .0 .0) = cc in
+    record { did = rw e (refl, cc, cc, cc) }
+
 pub step-spec : {M : Type 1} → statement M
 step-spec =
     tie.close
     (tie.spec
-    (λ c κs. search needs)
+    (λ c κs. search needs) (λ c. search needs) (λ c. search needs)
+    cut-at-requires
     (λ c. search needs)
-    (λ c. search needs)
-    (λ c κs. let e : findCorner (c .before .before .before .before .before .before .before .before .before .args .ps .now) (c .before .before .before .before .before .before .before .before .before .args .dir) ≡ At (c .before .before .before .before .f .given .0 .0) = cc in
-    omega (arith, choose-below (c .before .before .before .before .before .before .before .before .before .args .ps .now) (c .before .before .before .before .before .before .before .before .before .args .dir) (c .before .before .before .before .f .given .0 .0) e))
-    (λ c. search needs)
-    (λ c. let e : findCorner (c .before .before .before .before .before .args .ps .now) (c .before .before .before .before .before .args .dir) ≡ Nothing = cc in
-    record { did = rw e (refl, refl, refl, refl) })
-    (λ c. search needs)
-    (λ c. search needs)
-    (λ c. search needs)
-    (λ c. let e : findCorner (c .before .before .before .before .before .before .before .before .before .before .before .before .before .before .args .ps .now) (c .before .before .before .before .before .before .before .before .before .before .before .before .before .before .args .dir) ≡ At (c .before .before .before .before .before .before .before .before .before .f .given .0 .0) = cc in
-    record { did = rw e (refl, cc, cc, cc) }))
+    returns
+    (λ c. search needs) (λ c. search needs) (λ c. search needs)
+    returns-2)

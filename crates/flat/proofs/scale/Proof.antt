@@ -1,10 +1,14 @@
+-- `flat::scale` meets its contract: the three sides of the box and the two choices of the larger are the definition's.
 use Rattle.flat.specs.Points.{scaleOf}
 use borrow.Author.Needs.{needs}
 use Rattle.flat.proofs.scale.Statement.{statement}
 use Rattle.flat.proofs.scale.Tie as tie
 
-pub scale-spec : {M : Type 1} → statement M
+returns : tie.Need-returns
 unfolding scaleOf
+returns c = cc
+
+pub scale-spec : {M : Type 1} → statement M
 scale-spec =
     tie.close
     (tie.spec
@@ -18,4 +22,4 @@ scale-spec =
     (λ c. search needs)
     (λ c κs. search needs)
     (λ c κs. search needs)
-    (λ c. cc))
+    returns)

@@ -14,23 +14,63 @@ use Rattle.floats.proofs.root.Tie as tie
 held : (c : tie.Start) → T (fits binary64 (c .args .x))
 held c = holds (c .good .0 .1)
 
+returns : tie.Need-returns
+returns c = root-of-nan (c .before .args .x) (c .if1 .taken)
+
+float-to-bits-b : tie.Need-float-to-bits-b
+float-to-bits-b c = no-nan (c .before .args .x) (c .if1 .left)
+
+returns-2 : tie.Need-returns-2
+returns-2 c =
+    let start = c .before .before in
+    own-root (start .args .x) 0 (held start) (c .if2 .taken) plus-zero
+
+returns-3 : tie.Need-returns-3
+returns-3 c =
+    let start = c .before .before .before in
+    own-root (start .args .x) 0x8000_0000_0000_0000 (held start) (c .if3 .taken) minus-zero
+
+returns-4 : tie.Need-returns-4
+returns-4 c =
+    let start = c .before .before .before .before in
+    let args = start .args in
+    root-below (args .x) (held start) (c .if4 .taken) (toBits-lt binary64 (args .x) (held start))
+
+returns-5 : tie.Need-returns-5
+returns-5 c =
+    let start : tie.Start = search in
+    own-root (start .args .x) 0x7ff0_0000_0000_0000 (held start) (c .if5 .taken) plus-infinity
+
+root-pattern-requires : tie.Need-root-pattern-requires
+root-pattern-requires c κs =
+    let if3 = c .before .before .if3 in
+    let if2 = c .before .before .before .if2 in
+    let if1 = c .before .before .before .before .if1 in
+    let start : tie.Start = search in
+    let args = start .args in
+    let b = toBits binary64 (args .x) in
+    let below-sign : b < 2 ^ 63 = omega (arith, c .before .if4 .left, if3 .left) in
+    let finite : b ≤ 0x7ff0_0000_0000_0000 = at-most-infinity (args .x) (held start) (no-nan (args .x) (if1 .left)) below-sign in
+    omega (arith, c .if5 .left, if2 .left)
+
+float-from-bits-result : tie.Need-float-from-bits-result
+float-from-bits-result c = fails (c .root-pattern .ensures .no-nan)
+
+returns-6 : tie.Need-returns-6
+returns-6 c =
+    let start : tie.Start = search in
+    c .root-pattern .ensures .root ∙ ap (rootOf binary64) (ofBits-toBits binary64 (start .args .x) (held start))
+
 pub root-spec : {M : Type 1} → statement M
 root-spec =
     tie.close
     (tie.spec
-    (λ c. root-of-nan (c .before .args .x) (c .if1 .taken))
-    (λ c. no-nan (c .before .args .x) (c .if1 .left))
-    (λ c. own-root (c .before .before .args .x) 0 (held (c .before .before)) (c .if2 .taken) plus-zero)
-    (λ c. own-root (c .before .before .before .args .x) 0x8000_0000_0000_0000 (held (c .before .before .before)) (c .if3 .taken) minus-zero)
-    (λ c. let start = c .before .before .before .before in root-below (start .args .x) (held start) (c .if4 .taken) (toBits-lt binary64 (start .args .x) (held start)))
-    (λ c. let start = c .before .before .before .before .before in own-root (start .args .x) 0x7ff0_0000_0000_0000 (held start) (c .if5 .taken) plus-infinity)
-    (λ c κs.
-    let start = c .before .before .before .before .before in
-    let b = toBits binary64 (start .args .x) in
-    let below-sign : b < 2 ^ 63 = omega (arith, c .before .if4 .left, c .before .before .if3 .left) in
-    let finite : b ≤ 0x7ff0_0000_0000_0000 = at-most-infinity (start .args .x) (held start) (no-nan (start .args .x) (c .before .before .before .before .if1 .left)) below-sign in
-    omega (arith, c .if5 .left, c .before .before .before .if2 .left))
-    (λ c. fails (c .root-pattern .ensures .no-nan))
-    (λ c.
-    let start = c .before .before .before .before .before .before in
-    c .root-pattern .ensures .root ∙ ap (rootOf binary64) (ofBits-toBits binary64 (start .args .x) (held start))))
+    returns
+    float-to-bits-b
+    returns-2
+    returns-3
+    returns-4
+    returns-5
+    root-pattern-requires
+    float-from-bits-result
+    returns-6)

@@ -11,14 +11,32 @@ use borrow.Author.Needs.{needs}
 use Rattle.geometry.proofs.centroid.Statement.{statement}
 use Rattle.geometry.proofs.centroid.Tie as tie
 
+returns : tie.Need-returns
+unfolding centroidAnswer
+returns c = refused (c .before .cell-refusal .ensures) Place.Refused _ (c .if1 .taken)
+
+vertex-centroid-requires : tie.Need-vertex-centroid-requires
+vertex-centroid-requires c κs =
+    let start : tie.Start = search in
+    let args = start .args in
+    let s = sound (args .coords .now) (args .corners .now) (args .ends .now) [] []
+    (sym (c .before .cell-refusal .ensures) ∙ c .if1 .left) in
+    omega (arith, length-threes (args .coords .now), s .threes, s .few)
+
+returns-2 : tie.Need-returns-2
+unfolding centroidAnswer
+returns-2 c =
+    let if1 = c .before .before .if1 in
+    let cell-refusal = c .before .before .before .cell-refusal in
+    passed (cell-refusal .ensures) _ (if1 .left) (cc)
+
 pub centroid-spec : {M : Type 1} → statement M
 unfolding centroidAnswer
 centroid-spec =
     tie.close
     (tie.spec
     (λ c κs. search needs)
-    (λ c. refused (c .before .cell-refusal .ensures) Place.Refused _ (c .if1 .taken))
-    (λ c κs. let s = sound (c .before .before .before .before .before .args .coords .now) (c .before .before .before .before .before .args .corners .now) (c .before .before .before .before .before .args .ends .now) [] [] (sym (c .before .cell-refusal .ensures) ∙ c .if1 .left) in
-    omega (arith, length-threes (c .before .before .before .before .before .args .coords .now), s .threes, s .few))
+    returns
+    vertex-centroid-requires
     (λ c κs. search needs)
-    (λ c. passed (c .before .before .before .cell-refusal .ensures) _ (c .before .before .if1 .left) (cc)))
+    returns-2)

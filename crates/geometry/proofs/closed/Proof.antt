@@ -10,13 +10,30 @@ use borrow.Author.Needs.{needs}
 use Rattle.geometry.proofs.closed.Statement.{statement}
 use Rattle.geometry.proofs.closed.Tie as tie
 
+returns : tie.Need-returns
+unfolding closedAnswer
+returns c = refused (c .before .cell-refusal .ensures) Truth.Refused _ (c .if1 .taken)
+
+closed-requires : tie.Need-closed-requires
+closed-requires c κs =
+    let start : tie.Start = search in
+    let args = start .args in
+    let s = sound (args .coords .now) (args .corners .now) (args .ends .now) [] []
+    (sym (c .before .cell-refusal .ensures) ∙ c .if1 .left) in
+    rw (← length-threes (args .coords .now)) ((s .inside, s .few), (s .few-corners, s .ordered))
+
+returns-2 : tie.Need-returns-2
+unfolding closedAnswer
+returns-2 c =
+    let cell-refusal = c .before .before .cell-refusal in
+    passed (cell-refusal .ensures) _ (c .before .if1 .left) (cc)
+
 pub closed-spec : {M : Type 1} → statement M
 unfolding closedAnswer
 closed-spec =
     tie.close
     (tie.spec
     (λ c κs. search needs)
-    (λ c. refused (c .before .cell-refusal .ensures) Truth.Refused _ (c .if1 .taken))
-    (λ c κs. let s = sound (c .before .before .before .before .before .args .coords .now) (c .before .before .before .before .before .args .corners .now) (c .before .before .before .before .before .args .ends .now) [] [] (sym (c .before .cell-refusal .ensures) ∙ c .if1 .left) in
-    rw (← length-threes (c .before .before .before .before .before .args .coords .now)) ((s .inside, s .few), (s .few-corners, s .ordered)))
-    (λ c. passed (c .before .before .cell-refusal .ensures) _ (c .before .if1 .left) (cc)))
+    returns
+    closed-requires
+    returns-2)

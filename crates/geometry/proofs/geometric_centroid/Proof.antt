@@ -9,13 +9,31 @@ use borrow.Author.Needs.{needs}
 use Rattle.geometry.proofs.geometric_centroid.Statement.{statement}
 use Rattle.geometry.proofs.geometric_centroid.Tie as tie
 
+returns : tie.Need-returns
+unfolding geometricCentroidAnswer
+returns c = refused (c .before .cell-refusal .ensures) Place.Refused _ (c .if1 .taken)
+
+geometric-centroid-requires : tie.Need-geometric-centroid-requires
+geometric-centroid-requires c κs =
+    let start : tie.Start = search in
+    let args = start .args in
+    sound (args .coords .now) (args .corners .now) (args .ends .now) [] []
+    (sym (c .before .cell-refusal .ensures) ∙ c .if1 .left)
+
+returns-2 : tie.Need-returns-2
+unfolding geometricCentroidAnswer
+returns-2 c =
+    let if1 = c .before .before .if1 in
+    let cell-refusal = c .before .before .before .cell-refusal in
+    passed (cell-refusal .ensures) _ (if1 .left) (cc)
+
 pub geometric-centroid-spec : {M : Type 1} → statement M
 unfolding geometricCentroidAnswer
 geometric-centroid-spec =
     tie.close
     (tie.spec
     (λ c κs. search needs)
-    (λ c. refused (c .before .cell-refusal .ensures) Place.Refused _ (c .if1 .taken))
-    (λ c κs. sound (c .before .before .before .before .before .args .coords .now) (c .before .before .before .before .before .args .corners .now) (c .before .before .before .before .before .args .ends .now) [] [] (sym (c .before .cell-refusal .ensures) ∙ c .if1 .left))
+    returns
+    geometric-centroid-requires
     (λ c κs. search needs)
-    (λ c. passed (c .before .before .before .cell-refusal .ensures) _ (c .before .before .if1 .left) (cc)))
+    returns-2)

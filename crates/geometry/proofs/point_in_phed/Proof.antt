@@ -8,12 +8,27 @@ use borrow.Author.Needs.{needs}
 use Rattle.geometry.proofs.point_in_phed.Statement.{statement}
 use Rattle.geometry.proofs.point_in_phed.Tie as tie
 
+returns : tie.Need-returns
+unfolding pointInPhedAnswer
+returns c = refused (c .before .phed-refusal .ensures) Truth.Refused _ (c .if1 .taken)
+
+point-in-phed-requires : tie.Need-point-in-phed-requires
+point-in-phed-requires c κs =
+    let args = c .before .before .before .before .args in
+    phed-known (args .coords .now) (args .cs .now) (args .p) (sym (c .before .phed-refusal .ensures) ∙ c .if1 .left)
+
+returns-2 : tie.Need-returns-2
+unfolding pointInPhedAnswer
+returns-2 c =
+    let phed-refusal = c .before .before .phed-refusal in
+    passed (phed-refusal .ensures) _ (c .before .if1 .left) (cc)
+
 pub point-in-phed-spec : {M : Type 1} → statement M
 unfolding pointInPhedAnswer
 point-in-phed-spec =
     tie.close
     (tie.spec
     (λ c κs. search needs)
-    (λ c. refused (c .before .phed-refusal .ensures) Truth.Refused _ (c .if1 .taken))
-    (λ c κs. phed-known (c .before .before .before .before .args .coords .now) (c .before .before .before .before .args .cs .now) (c .before .before .before .before .args .p) (sym (c .before .phed-refusal .ensures) ∙ c .if1 .left))
-    (λ c. passed (c .before .before .phed-refusal .ensures) _ (c .before .if1 .left) (cc)))
+    returns
+    point-in-phed-requires
+    returns-2)

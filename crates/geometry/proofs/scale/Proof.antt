@@ -6,13 +6,23 @@ use borrow.Author.Needs.{needs}
 use Rattle.geometry.proofs.scale.Statement.{statement}
 use Rattle.geometry.proofs.scale.Tie as tie
 
+returns : tie.Need-returns
+unfolding scaleAnswer
+returns c = refused (c .before .cell-refusal .ensures) Number.Refused _ (c .if1 .taken)
+
+returns-2 : tie.Need-returns-2
+unfolding scaleAnswer
+returns-2 c =
+    let if1 = c .before .before .if1 in
+    let cell-refusal = c .before .before .before .cell-refusal in
+    passed (cell-refusal .ensures) _ (if1 .left) (cc)
+
 pub scale-spec : {M : Type 1} → statement M
 unfolding scaleAnswer
 scale-spec =
     tie.close
     (tie.spec
     (λ c κs. search needs)
-    (λ c. refused (c .before .cell-refusal .ensures) Number.Refused _ (c .if1 .taken))
-    (λ c κs. search needs)
-    (λ c κs. search needs)
-    (λ c. passed (c .before .before .before .cell-refusal .ensures) _ (c .before .before .if1 .left) (cc)))
+    returns
+    (λ c κs. search needs) (λ c κs. search needs)
+    returns-2)

@@ -12,20 +12,57 @@ use borrow.Author.Needs.{needs}
 use Rattle.geometry.proofs.survey.Statement.{statement}
 use Rattle.geometry.proofs.survey.Tie as tie
 
+returns : tie.Need-returns
+unfolding surveyAnswer surveyOf measuredOf volumeOf
+returns c = refused (c .before .survey-refusal .ensures) Surveyed.Refused _ (c .if1 .taken)
+
+measure-requires : tie.Need-measure-requires
+measure-requires c κs =
+    let start : tie.Start = search in
+    let args = start .args in
+    survey-sound (args .coords .now) (args .corners .now) (args .ends .now) (args .queries .now)
+    (sym (c .before .survey-refusal .ensures) ∙ c .if1 .left)
+
+closed-requires : tie.Need-closed-requires
+closed-requires c κs =
+    let survey-refusal = c .before .before .survey-refusal in
+    let start : tie.Start = search in
+    let args = start .args in
+    let s = survey-sound (args .coords .now) (args .corners .now) (args .ends .now) (args .queries .now)
+    (sym (survey-refusal .ensures) ∙ c .before .if1 .left) in
+    rw (← length-threes (args .coords .now)) ((s .inside, s .few), (s .few-corners, s .ordered))
+
+count-contained-requires : tie.Need-count-contained-requires
+count-contained-requires c κs =
+    let if1 = c .before .before .before .if1 in
+    let survey-refusal = c .before .before .before .before .survey-refusal in
+    let start : tie.Start = search in
+    let args = start .args in
+    let z = sym (survey-refusal .ensures) ∙ if1 .left in (
+      survey-sound (args .coords .now) (args .corners .now) (args .ends .now) (args .queries .now) z,
+      few-queries (args .coords .now) (args .corners .now) (args .ends .now) (args .queries .now) z,
+    )
+
+returns-2 : tie.Need-returns-2
+unfolding surveyAnswer surveyOf measuredOf volumeOf
+returns-2 c =
+    let measure = c .before .before .before .measure in
+    let if1 = c .before .before .before .before .if1 in
+    let survey-refusal = c .before .before .before .before .before .survey-refusal in
+    let v = ap (λ (x : Measured). x .v6) (measure .ensures) in
+    let t = ap (λ (x : Measured). x .triangles) (measure .ensures) in
+    let k = ap (λ (x : Measured). x .short) (measure .ensures) in
+    passed (survey-refusal .ensures) _ (if1 .left) (cc)
+
 pub survey-spec : {M : Type 1} → statement M
 unfolding surveyAnswer surveyOf measuredOf volumeOf
 survey-spec =
     tie.close
     (tie.spec
     (λ c κs. search needs)
-    (λ c. refused (c .before .survey-refusal .ensures) Surveyed.Refused _ (c .if1 .taken))
-    (λ c κs. survey-sound (c .before .before .before .before .before .before .args .coords .now) (c .before .before .before .before .before .before .args .corners .now) (c .before .before .before .before .before .before .args .ends .now) (c .before .before .before .before .before .before .args .queries .now) (sym (c .before .survey-refusal .ensures) ∙ c .if1 .left))
-    (λ c κs. let s = survey-sound (c .before .before .before .before .before .before .before .args .coords .now) (c .before .before .before .before .before .before .before .args .corners .now) (c .before .before .before .before .before .before .before .args .ends .now) (c .before .before .before .before .before .before .before .args .queries .now) (sym (c .before .before .survey-refusal .ensures) ∙ c .before .if1 .left) in
-    rw (← length-threes (c .before .before .before .before .before .before .before .args .coords .now)) ((s .inside, s .few), (s .few-corners, s .ordered)))
+    returns
+    measure-requires
+    closed-requires
     (λ c κs. search needs)
-    (λ c κs. let z = sym (c .before .before .before .before .survey-refusal .ensures) ∙ c .before .before .before .if1 .left in
-    (survey-sound (c .before .before .before .before .before .before .before .before .before .args .coords .now) (c .before .before .before .before .before .before .before .before .before .args .corners .now) (c .before .before .before .before .before .before .before .before .before .args .ends .now) (c .before .before .before .before .before .before .before .before .before .args .queries .now) z, few-queries (c .before .before .before .before .before .before .before .before .before .args .coords .now) (c .before .before .before .before .before .before .before .before .before .args .corners .now) (c .before .before .before .before .before .before .before .before .before .args .ends .now) (c .before .before .before .before .before .before .before .before .before .args .queries .now) z))
-    (λ c. let v = ap (λ (x : Measured). x .v6) (c .before .before .before .measure .ensures) in
-    let t = ap (λ (x : Measured). x .triangles) (c .before .before .before .measure .ensures) in
-    let k = ap (λ (x : Measured). x .short) (c .before .before .before .measure .ensures) in
-    passed (c .before .before .before .before .before .survey-refusal .ensures) _ (c .before .before .before .before .if1 .left) (cc)))
+    count-contained-requires
+    returns-2)

@@ -1,4 +1,5 @@
--- `geometry::turn_faces` meets its contract: a cell that passes the checks is sound, so the room may choose, and all three ends are promised.
+-- `geometry::turn_faces` meets its contract: a cell that passes the checks is sound, so the room may choose,
+-- and all three ends are promised.
 use mathlib.Core.Path.{sym, _∙_}
 use mathlib.Core.List.{[]}
 use Prim.Native.Nat.{ℕ}
@@ -25,52 +26,58 @@ returns : tie.Need-returns
 returns c =
     let start : tie.Start = search in
     let args = start .args in
-    turn-faces-refused (args .coords .now) (args .corners .now) (args .ends .now) (c .before .cell-refusal .ensures) (c .if1 .taken)
+    turn-faces-refused (args .coords .now) (args .corners .now) (args .ends .now) (c .before .cell-refusal .ensures)
+    (c .if1 .taken)
 
 array-borrow-prefix-code : tie.Need-array-borrow-prefix-code
-array-borrow-prefix-code c = let at : tie.Else1 = search in whole at .few-faces
+array-borrow-prefix-code c = whole c .few-faces
 
 slice-aggregate-part : tie.Need-slice-aggregate-part
-slice-aggregate-part c = let at : tie.Else1 = search in first-of _ 256 0 (whole at .few-faces)
+slice-aggregate-part c = first-of _ 256 0 (whole (c .before) .few-faces)
 
 choose-requires : tie.Need-choose-requires
 choose-requires c κs =
-    let start : tie.Start = search in
+    let else1 = c .before .before .before in
+    let start = c .before .before .before .before .before .before .before .before .before in
     let args = start .args in
-    let at : tie.Else1 = search in
-    let s = whole at in (
+    let s = whole else1 in (
       rw (← length-threes (args .coords .now)) (s .inside, s .few),
-      ((s .few-corners, s .ordered, s .few-faces), (blank-part (length (args .ends .now)) 256, sym (first-of _ 256 0 (s .few-faces)))),
+      (
+        (s .few-corners, s .ordered, s .few-faces),
+        (blank-part (length (args .ends .now)) 256, sym (first-of _ 256 0 (s .few-faces))),
+      ),
     )
 
 returns-2 : tie.Need-returns-2
 returns-2 c =
-    let start : tie.Start = search in
+    let choose = c .before .before .before .before .choose in
+    let if1 = c .before .before .before .before .before .before .before .before .if1 in
+    let after-cell-refusal : tie.After-cell-refusal = search in
+    let start = after-cell-refusal .before .before .before .before .before in
     let args = start .args in
-    let at : tie.Else1 = search in
-    let chosen : tie.After-choose = search in
-    let unturned : tie.Then2 = search in
-    turn-faces-none (args .coords .now) (args .corners .now) (args .ends .now) (at .before .cell-refusal .ensures) (at .if1 .left)
-    (chosen .choose .ensures) (unturned .if2 .taken)
+    turn-faces-none (args .coords .now) (args .corners .now) (args .ends .now) (after-cell-refusal .cell-refusal .ensures)
+    (if1 .left) (choose .ensures) (c .before .if2 .taken)
 
 reverse-faces-requires : tie.Need-reverse-faces-requires
 reverse-faces-requires c κs =
-    let start : tie.Start = search in
-    let args = start .args in
-    let at : tie.Else1 = search in
-    let s = whole at in
-    ((s .ordered, s .few-corners), (omega (arith, sym (first-of {A = ℕ} (length (args .ends .now)) 256 0 (s .few-faces))), s .few-faces))
+    let else1 : tie.Else1 = search in
+    let start = else1 .before .before .before .before .before .before in
+    let s = whole else1 in (
+      (s .ordered, s .few-corners),
+      (omega (arith, sym (first-of {A = ℕ} (length (start .args .ends .now)) 256 0 (s .few-faces))), s .few-faces),
+    )
 
 returns-3 : tie.Need-returns-3
 returns-3 c =
-    let start : tie.Start = search in
+    let reverse-faces = c .before .before .before .reverse-faces in
+    let if2 = c .before .before .before .before .before .before .if2 in
+    let after-choose : tie.After-choose = search in
+    let if1 = after-choose .before .before .before .before .if1 in
+    let cell-refusal = after-choose .before .before .before .before .before .cell-refusal in
+    let start = after-choose .before .before .before .before .before .before .before .before .before .before in
     let args = start .args in
-    let at : tie.Else1 = search in
-    let chosen : tie.After-choose = search in
-    let passed : tie.Else2 = search in
-    let reversed : tie.After-reverse-faces = search in
-    turn-faces-done (args .coords .now) (args .corners .now) (args .ends .now) (at .before .cell-refusal .ensures) (at .if1 .left)
-    (chosen .choose .ensures) (passed .if2 .left) (reversed .reverse-faces .ensures .0) (reversed .reverse-faces .ensures .1)
+    turn-faces-done (args .coords .now) (args .corners .now) (args .ends .now) (cell-refusal .ensures) (if1 .left)
+    (after-choose .choose .ensures) (if2 .left) (reverse-faces .ensures .0) (reverse-faces .ensures .1)
 
 pub turn-faces-spec : {M : Type 1} → statement M
 turn-faces-spec =

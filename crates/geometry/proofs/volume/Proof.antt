@@ -9,12 +9,29 @@ use borrow.Author.Needs.{needs}
 use Rattle.geometry.proofs.volume.Statement.{statement}
 use Rattle.geometry.proofs.volume.Tie as tie
 
+returns : tie.Need-returns
+unfolding volumeAnswer
+returns c = refused (c .before .cell-refusal .ensures) Number.Refused _ (c .if1 .taken)
+
+volume-requires : tie.Need-volume-requires
+volume-requires c κs =
+    let start : tie.Start = search in
+    let args = start .args in
+    sound (args .coords .now) (args .corners .now) (args .ends .now) [] []
+    (sym (c .before .cell-refusal .ensures) ∙ c .if1 .left)
+
+returns-2 : tie.Need-returns-2
+unfolding volumeAnswer
+returns-2 c =
+    let cell-refusal = c .before .before .cell-refusal in
+    passed (cell-refusal .ensures) _ (c .before .if1 .left) (cc)
+
 pub volume-spec : {M : Type 1} → statement M
 unfolding volumeAnswer
 volume-spec =
     tie.close
     (tie.spec
     (λ c κs. search needs)
-    (λ c. refused (c .before .cell-refusal .ensures) Number.Refused _ (c .if1 .taken))
-    (λ c κs. sound (c .before .before .before .before .before .args .coords .now) (c .before .before .before .before .before .args .corners .now) (c .before .before .before .before .before .args .ends .now) [] [] (sym (c .before .cell-refusal .ensures) ∙ c .if1 .left))
-    (λ c. passed (c .before .before .cell-refusal .ensures) _ (c .before .if1 .left) (cc)))
+    returns
+    volume-requires
+    returns-2)

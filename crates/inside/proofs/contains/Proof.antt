@@ -1,3 +1,5 @@
+-- `inside::contains` meets its contract: each pass turns the answer as `crossFace` does, so the faces that are left make, with the answer
+-- so far, the whole (`Facing`).
 use mathlib.Core.Path.{refl}
 use Prim.Native.Nat.{_-_}
 use native.Mathlib.Omega.{arith}
@@ -11,18 +13,52 @@ use borrow.Author.Needs.{needs}
 use Rattle.inside.proofs.contains.Statement.{statement}
 use Rattle.inside.proofs.contains.Tie as tie
 
-pub contains-spec : {M : Type 1} → statement M
+abbrev Inv-loop : tie.InvT-loop
+Inv-loop coords corners ends p inside₀ start₀ k₀ inside start k =
+    let vs = verticesOf coords in
+    Facing (crossFace vs p) corners ends (containsOf vs p (facesOf corners ends)) start k inside
+
+abbrev μ-loop : tie.MeasureT-loop
+μ-loop coords corners ends p inside₀ start₀ k₀ inside start k = length ends - k
+
+loop-holds : tie.Need-loop-holds Inv-loop μ-loop
 unfolding containsOf
+loop-holds c =
+    let start : tie.Start Inv-loop μ-loop = search in
+    face-start (start .pre .ordered) refl
+
+face-requires : tie.Need-face-requires Inv-loop μ-loop
+face-requires c κs =
+    let at : tie.At-loop Inv-loop μ-loop = search in
+    let step = face-step (at .loop .inv) (omega arith) (c .corner .ensures .0) in
+    (step .from, step .upto)
+
+cross-face-requires : tie.Need-cross-face-requires Inv-loop μ-loop
+cross-face-requires c κs =
+    let start : tie.Start Inv-loop μ-loop = search in
+    let at : tie.At-loop Inv-loop μ-loop = search in
+    rw (c .face .ensures) (each-slice (at .loop .start) (c .before .corner .result) _ (start .pre .inside))
+
+loop-again : tie.Need-loop-again Inv-loop μ-loop
+loop-again c =
+    let at : tie.At-loop Inv-loop μ-loop = search in
+    let end : tie.After-corner Inv-loop μ-loop = search in
+    face-next (at .loop .inv) (omega arith) (end .corner .ensures .0) (cc)
+
+returns : tie.Need-returns Inv-loop μ-loop
+returns c = face-end (c .before .loop .inv) (omega arith)
+
+pub contains-spec : {M : Type 1} → statement M
 contains-spec =
     tie.close
     (tie.spec
-    (λ coords corners ends p inside₀ start₀ k₀ inside start k. Facing (crossFace (verticesOf coords) p) corners ends (containsOf (verticesOf coords) p (facesOf corners ends)) start k inside)
-    (λ coords corners ends p inside₀ start₀ k₀ inside start k. length ends - k)
-    (λ c. face-start (c .before .before .before .pre .ordered) refl)
+    Inv-loop
+    μ-loop
+    loop-holds
     (λ c κs. search needs)
-    (λ c κs. let s = face-step (c .before .before .loop .inv) (omega arith) (c .corner .ensures .0) in (s .from, s .upto))
-    (λ c κs. rw (c .face .ensures) (each-slice (c .before .before .before .loop .start) (c .before .corner .result) _ (c .before .before .before .before .before .before .before .pre .inside)))
+    face-requires
+    cross-face-requires
     (λ c. search needs)
     (λ c. search needs)
-    (λ c. face-next (c .before .before .before .before .loop .inv) (omega arith) (c .before .before .corner .ensures .0) (cc))
-    (λ c. face-end (c .before .loop .inv) (omega arith)))
+    loop-again
+    returns)

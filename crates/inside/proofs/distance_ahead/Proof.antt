@@ -1,11 +1,16 @@
+-- `inside::distance_ahead` meets its contract: the code is the definition's expression, operation by operation, and every place that it
+-- reads is one of three.
 use mathlib.Core.Path.{refl}
 use Rattle.inside.specs.Ray.{distanceAhead}
 use borrow.Author.Needs.{needs}
 use Rattle.inside.proofs.distance_ahead.Statement.{statement}
 use Rattle.inside.proofs.distance_ahead.Tie as tie
 
-pub distance-ahead-spec : {M : Type 1} → statement M
+returns : tie.Need-returns
 unfolding distanceAhead
+returns c = refl
+
+pub distance-ahead-spec : {M : Type 1} → statement M
 distance-ahead-spec =
     tie.close
     (tie.spec
@@ -19,4 +24,4 @@ distance-ahead-spec =
     (λ c. search needs)
     (λ c. search needs)
     (λ c. search needs)
-    (λ c. refl))
+    returns)

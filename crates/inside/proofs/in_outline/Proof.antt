@@ -1,3 +1,5 @@
+-- `inside::in_outline` meets its contract: the loop keeps the corner that it came from, and the sides still to walk make, with the answer
+-- so far, the whole (`Walking`); no corners have no side.
 use mathlib.Core.Path.{_≡_, refl, sym, _∙_}
 use Prim.Native.Nat.{_-_}
 use native.Mathlib.Omega.{arith}
@@ -12,26 +14,55 @@ use borrow.Author.Needs.{needs}
 use Rattle.inside.proofs.in_outline.Statement.{statement}
 use Rattle.inside.proofs.in_outline.Tie as tie
 
-pub in-outline-spec : {M : Type 1} → statement M
+abbrev Inv-loop : tie.InvT-loop
+Inv-loop coords face axis p n first inside₀ a₀ i₀ inside a i =
+    let ps = pointsOf (verticesOf coords) axis face in
+    (n ≡ length face) × Walking (passSide p) ps (inOutline p ps) first i a inside
+
+abbrev μ-loop : tie.MeasureT-loop
+μ-loop coords face axis p n first inside₀ a₀ i₀ inside a i = n - i
+
+no-corners : tie.Need-returns Inv-loop μ-loop
+no-corners c = no-outline _ _ _ _ (search needs)
+
+loop-holds : tie.Need-loop-holds Inv-loop μ-loop
 unfolding inOutline
+loop-holds c =
+    let start : tie.Start Inv-loop μ-loop = search in
+    let args = start .args in
+    let as-many = length-points (verticesOf (args .coords .now)) (args .axis) (args .face .now) in
+    (refl, walk-start [] (omega arith) (c .point-at .ensures ∙ sym (points-at _ _ _ 0 (omega arith))) refl)
+
+loop-again : tie.Need-loop-again Inv-loop μ-loop
+loop-again c =
+    let start : tie.Start Inv-loop μ-loop = search in
+    let args = start .args in
+    let at : tie.At-loop Inv-loop μ-loop = search in
+    let as-many = length-points (verticesOf (args .coords .now)) (args .axis) (args .face .now) in
+    let point = points-at (verticesOf (args .coords .now)) (args .axis) (args .face .now) (at .loop .i) (omega arith) in
+    (at .loop .inv .0, walk-next [] (at .loop .inv .1) (omega arith) (c .before .point-at2 .ensures ∙ sym point) (c .pass-side .ensures))
+
+returns : tie.Need-returns-2 Inv-loop μ-loop
+returns c =
+    let start : tie.Start Inv-loop μ-loop = search in
+    let args = start .args in
+    let at : tie.At-loop Inv-loop μ-loop = search in
+    let as-many = length-points (verticesOf (args .coords .now)) (args .axis) (args .face .now) in
+    walk-end (at .loop .inv .1) (omega arith) (c .pass-side2 .ensures)
+
+pub in-outline-spec : {M : Type 1} → statement M
 in-outline-spec =
     tie.close
     (tie.spec
-    (λ coords face axis p n first inside₀ a₀ i₀ inside a i. (n ≡ length face) × Walking (passSide p) (pointsOf (verticesOf coords) axis face) (inOutline p (pointsOf (verticesOf coords) axis face)) first i a inside)
-    (λ coords face axis p n first inside₀ a₀ i₀ inside a i. n - i)
-    (λ c. no-outline _ _ _ _ (search needs))
+    Inv-loop
+    μ-loop
+    no-corners
     (λ c κs. search needs)
-    (λ c. let a = c .before .before .before .before .args in
-    let e = length-points (verticesOf (a .coords .now)) (a .axis) (a .face .now) in
-    (refl, walk-start [] (omega arith) (c .point-at .ensures ∙ sym (points-at _ _ _ 0 (omega arith))) refl))
+    loop-holds
     (λ c κs. search needs)
     (λ c κs. search needs)
     (λ c. search needs)
     (λ c. search needs)
-    (λ c. let a = c .before .before .before .before .before .before .before .before .args in
-    let e = length-points (verticesOf (a .coords .now)) (a .axis) (a .face .now) in
-    (c .before .before .before .loop .inv .0, walk-next [] (c .before .before .before .loop .inv .1) (omega arith) (c .before .point-at2 .ensures ∙ sym (points-at _ _ _ _ (omega arith))) (c .pass-side .ensures)))
+    loop-again
     (λ c κs. search needs)
-    (λ c. let a = c .before .before .before .before .before .before .before .args in
-    let e = length-points (verticesOf (a .coords .now)) (a .axis) (a .face .now) in
-    walk-end (c .before .before .loop .inv .1) (omega arith) (c .pass-side2 .ensures)))
+    returns)

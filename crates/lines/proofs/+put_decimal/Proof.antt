@@ -1,3 +1,5 @@
+-- `lines::put_decimal` meets its contract: the digits of n are those of its tenth and then the last one, and a number of 64 bits has
+-- at most 20.
 use borrow.Author.Needs.{needs}
 use borrow.Fn.Kinds.{In}
 use borrow.Fn.PlainCycle.{Measures, is, falls, and}
@@ -24,7 +26,8 @@ put-decimal-below t = and 1 put-decimal-kinds.ps (falls 1 put-decimal-kinds.ps _
 pub +put-decimal-spec : {M : Type 1} → statement M
 +put-decimal-spec =
     close μ-put-decimal λ t.
-    put-decimal-lts.spec (put-byte-reads.Asked, put-byte-reads.Learnt, put-decimal-below t, put-decimal.Post) (put-decimal-at t) put-decimal.Post
+    put-decimal-lts.spec (put-byte-reads.Asked, put-byte-reads.Learnt, put-decimal-below t, put-decimal.Post)
+    (put-decimal-at t) put-decimal.Post
     (λ c. omega arith)
     (λ c. omega arith)
     (λ c κs. omega arith)
@@ -40,7 +43,9 @@ pub +put-decimal-spec : {M : Type 1} → statement M
     omega (arith, tenth-length n (omega arith)))
     (λ c. search needs)
     (λ c.
-    let n = c .before .before .before .before .before .before .before .before .before .before .args .n in (
-      rw (decimal-step n (omega arith) (omega arith)) (then (c .before .before .before .before .before .before .put-decimal .ensures .0) (c .before .before .put-byte2 .ensures)),
+    let byte = c .before .before in
+    let rest = byte .before .before .before .before in
+    let n = rest .before .before .before .before .args .n in (
+      rw (decimal-step n (omega arith) (omega arith)) (then (rest .put-decimal .ensures .0) (byte .put-byte2 .ensures)),
       omega (arith, tenth-length n (omega arith)),
     ))

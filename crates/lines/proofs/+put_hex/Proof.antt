@@ -1,3 +1,4 @@
+-- `lines::put_hex` meets its contract: the last k digits of n are the last k - 1 of its sixteenth, and then one more.
 use borrow.Author.Needs.{needs}
 use borrow.Fn.Kinds.{In}
 use borrow.Fn.PlainCycle.{Measures, is, falls, and}
@@ -26,7 +27,9 @@ put-hex-below t = and 1 put-hex-kinds.ps (falls 1 put-hex-kinds.ps _<_ μ-put-he
 pub +put-hex-spec : {M : Type 1} → statement M
 +put-hex-spec =
     close μ-put-hex λ t.
-    put-hex-lts.spec (put-hex-below t, put-hex.Post, digit-reads.Asked, digit-reads.Learnt, put-byte-reads.Asked, put-byte-reads.Learnt) (put-hex-at t) put-hex.Post
+    put-hex-lts.spec
+    (put-hex-below t, put-hex.Post, digit-reads.Asked, digit-reads.Learnt, put-byte-reads.Asked, put-byte-reads.Learnt)
+    (put-hex-at t) put-hex.Post
     (λ c.
     let a = c .before .before .args in
     (rw (hex-none (a .k) (a .n) (c .if1 .taken)) (record { holds = refl; ends = omega arith }), omega arith))
@@ -36,8 +39,10 @@ pub +put-hex-spec : {M : Type 1} → statement M
     (λ c κs. omega arith)
     (λ c. search needs)
     (λ c.
-    let a = c .before .before .before .before .before .before .before .before .before .before .before .args in (
-      rw (hex-step (a .k) (a .n) (c .before .before .before .before .before .before .before .before .before .if1 .left))
-          (then (c .before .before .before .before .before .before .before .put-hex .ensures .0) (same-byte (c .before .before .before .digit .ensures) (c .before .before .put-byte .ensures))),
-      omega arith,
-    ))
+    let byte = c .before .before in
+    let digit = byte .before .digit in
+    let rest = byte .before .before .before .before .before in
+    let some = rest .before .before in
+    let args = some .before .before .args in
+    let last = same-byte (digit .ensures) (byte .put-byte .ensures) in
+    (rw (hex-step (args .k) (args .n) (some .if1 .left)) (then (rest .put-hex .ensures .0) last), omega arith))

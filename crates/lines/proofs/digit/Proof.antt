@@ -1,15 +1,19 @@
+-- `lines::digit` meets its contract: the test is that of the definition, and both sums are below 256.
 use borrow.Author.Tests.{lt-ltb, le-ltb}
 use borrow.Author.Needs.{needs}
 use Rattle.lines.proofs.digit.Statement.{statement}
 use Rattle.lines.proofs.digit.Tie as tie
 
+returns : tie.Need-returns
+returns c = simp (lt-ltb _ _ (c .if1 .taken))
+
+returns-2 : tie.Need-returns-2
+returns-2 c = simp (le-ltb _ _ (c .if1 .left))
+
 pub digit-spec : {M : Type 1} → statement M
 digit-spec =
     tie.close
     (tie.spec
-    (λ c. search needs)
-    (λ c. search needs)
-    (λ c. search needs)
-    (λ c. search needs)
-    (λ c. simp (lt-ltb _ _ (c .if1 .taken)))
-    (λ c. simp (le-ltb _ _ (c .if1 .left))))
+    (λ c. search needs) (λ c. search needs) (λ c. search needs) (λ c. search needs)
+    returns
+    returns-2)

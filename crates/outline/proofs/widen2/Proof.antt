@@ -1,26 +1,48 @@
+-- `outline::widen2` meets its contract: each coordinate is the lesser or the greater of the box's and the point's, and the box has no NaN,
+-- as these two ask.
 use Rattle.flat.specs.Points.{widenOf}
 use native.Mathlib.Omega.{arith}
 use borrow.Author.Needs.{needs}
 use Rattle.outline.proofs.widen2.Statement.{statement}
 use Rattle.outline.proofs.widen2.Tie as tie
 
-pub widen2-spec : {M : Type 1} → statement M
+lesser-requires : tie.Need-lesser-requires
+lesser-requires c κs =
+    let pre = c .before .before .pre in
+    pre .low 0 (omega arith)
+
+lesser-requires-2 : tie.Need-lesser-requires-2
+lesser-requires-2 c κs =
+    let pre = c .before .before .before .pre in
+    pre .low 1 (omega arith)
+
+greater-requires : tie.Need-greater-requires
+greater-requires c κs =
+    let pre = c .before .before .before .before .pre in
+    pre .high 0 (omega arith)
+
+greater-requires-2 : tie.Need-greater-requires-2
+greater-requires-2 c κs =
+    let start : tie.Start = search in
+    start .pre .high 1 (omega arith)
+
+returns : tie.Need-returns
 unfolding widenOf
+returns c =
+    let lesser2 = c .before .before .lesser2 in
+    let lesser = c .before .before .before .lesser in
+    rw (← lesser .ensures, ← lesser2 .ensures, ← c .before .greater .ensures, ← c .greater2 .ensures)
+
+pub widen2-spec : {M : Type 1} → statement M
 widen2-spec =
     tie.close
     (tie.spec
-    (λ c. search needs)
-    (λ c. search needs)
-    (λ c. search needs)
-    (λ c. search needs)
-    (λ c κs. c .before .before .pre .low 0 (omega arith))
-    (λ c. search needs)
-    (λ c. search needs)
-    (λ c κs. c .before .before .before .pre .low 1 (omega arith))
-    (λ c. search needs)
-    (λ c. search needs)
-    (λ c κs. c .before .before .before .before .pre .high 0 (omega arith))
-    (λ c. search needs)
-    (λ c. search needs)
-    (λ c κs. c .before .before .before .before .before .pre .high 1 (omega arith))
-    (λ c. rw (← c .before .before .before .lesser .ensures, ← c .before .before .lesser2 .ensures, ← c .before .greater .ensures, ← c .greater2 .ensures)))
+    (λ c. search needs) (λ c. search needs) (λ c. search needs) (λ c. search needs)
+    lesser-requires
+    (λ c. search needs) (λ c. search needs)
+    lesser-requires-2
+    (λ c. search needs) (λ c. search needs)
+    greater-requires
+    (λ c. search needs) (λ c. search needs)
+    greater-requires-2
+    returns)

@@ -7,6 +7,7 @@ use Rattle.places.proofs.Lists.{each-slice}
 use Rattle.places.proofs.Stored.{length-threes}
 use Rattle.flat.specs.Points.{verticesOf}
 use Rattle.cell.specs.Faces.{facesOf}
+use Rattle.cell.proofs.Faces.{Step}
 use Rattle.outward.specs.Outward.{outwardOf, outwardCorners}
 use Rattle.outward.proofs.Stretches.{Stretches, stretch-start, stretch-step, stretch-part, stretch-some, stretch-next, stretch-end}
 use Rattle.outward.proofs.Outward.{length-outward}
@@ -14,23 +15,95 @@ use borrow.Author.Needs.{needs}
 use Rattle.outward.proofs.into_ccw.Statement.{statement}
 use Rattle.outward.proofs.into_ccw.Tie as tie
 
-pub into-ccw-spec : {M : Type 1} → statement M
+abbrev Inv-loop : tie.InvT-loop
+Inv-loop coords corners₀ ends reference n start₀ k₀ corners start k =
+    let vs = verticesOf coords in
+    (n ≡ length ends) ×
+    Stretches (outwardOf vs reference) corners₀ ends (outwardCorners vs (facesOf corners₀ ends)) start k corners
+
+abbrev μ-loop : tie.MeasureT-loop
+μ-loop coords corners₀ ends reference n start₀ k₀ corners start k = n - k
+
+vertex-centroid-requires : tie.Need-vertex-centroid-requires Inv-loop μ-loop
+vertex-centroid-requires c κs =
+    let start : tie.Start Inv-loop μ-loop = search in
+    omega (arith, length-threes (start .args .coords .now))
+
+loop-holds : tie.Need-loop-holds Inv-loop μ-loop
 unfolding outwardCorners
+loop-holds c =
+    let start : tie.Start Inv-loop μ-loop = search in
+    let pre = start .pre in
+    (refl, stretch-start (pre .0 .ordered) (pre .1) (rw (c .vertex-centroid .ensures)))
+
+-- where the face k stands: its stretch lies in the list of corners
+stretch : (c : tie.After-corner Inv-loop μ-loop) → let s : tie.Start Inv-loop μ-loop = search in
+    let l : tie.At-loop Inv-loop μ-loop = search in
+    Step (l .loop .start) (s .args .ends .now) (length (s .args .corners .now)) (l .loop .k) (c .corner .result)
+stretch c =
+    let at : tie.At-loop Inv-loop μ-loop = search in
+    stretch-step (at .loop .inv .1) (search needs) (c .corner .ensures .0)
+
+mul-face-outward : tie.Need-mul-face-outward Inv-loop μ-loop
+mul-face-outward c =
+    let start : tie.Start Inv-loop μ-loop = search in
+    let step = stretch c in
+    omega (arith, start .pre .0 .few-corners)
+
+sub-face-outward : tie.Need-sub-face-outward Inv-loop μ-loop
+sub-face-outward c = stretch c .from
+
+part-face-outward-start : tie.Need-part-face-outward-start Inv-loop μ-loop
+part-face-outward-start c = stretch c .from
+
+part-face-outward-end : tie.Need-part-face-outward-end Inv-loop μ-loop
+part-face-outward-end c =
+    let at : tie.At-loop Inv-loop μ-loop = search in
+    let step = stretch c in
+    omega (arith, at .loop .inv .1 .long)
+
+face-outward-requires : tie.Need-face-outward-requires Inv-loop μ-loop
+face-outward-requires c κs =
+    let start : tie.Start Inv-loop μ-loop = search in
+    let at : tie.At-loop Inv-loop μ-loop = search in
+    let inv = at .loop .inv .1 in
+    let end : tie.After-corner Inv-loop μ-loop = search in
+    let last = end .corner in (
+      rw (stretch-part inv (search needs) (last .ensures .0))
+          (each-slice (at .loop .start) (last .result) _ (start .pre .0 .inside)),
+      stretch-some inv (search needs) (last .ensures .0),
+    )
+
+loop-again : tie.Need-loop-again Inv-loop μ-loop
+loop-again c =
+    let at : tie.At-loop Inv-loop μ-loop = search in
+    let inv = at .loop .inv in
+    let end : tie.After-corner Inv-loop μ-loop = search in
+    let turned : tie.After-face-outward Inv-loop μ-loop = search in
+    (inv .0, stretch-next (inv .1) (search needs) (end .corner .ensures .0) (length-outward _ _) (turned .face-outward .ensures))
+
+same-length : tie.Need-same-length Inv-loop μ-loop
+same-length c = c .before .loop .inv .1 .long
+
+returns : tie.Need-returns Inv-loop μ-loop
+returns c = stretch-end (c .before .loop .inv .1) (search needs)
+
+pub into-ccw-spec : {M : Type 1} → statement M
 into-ccw-spec =
     tie.close
     (tie.spec
-    (λ coords corners₀ ends reference n start₀ k₀ corners start k. (n ≡ length ends) × Stretches (outwardOf (verticesOf coords) reference) corners₀ ends (outwardCorners (verticesOf coords) (facesOf corners₀ ends)) start k corners)
-    (λ coords corners₀ ends reference n start₀ k₀ corners start k. n - k)
-    (λ c κs. omega (arith, length-threes (c .before .before .before .args .coords .now)))
-    (λ c. let s = c .before .before .before .before .pre in (refl, stretch-start (s .0 .ordered) (s .1) (rw (c .vertex-centroid .ensures))))
+    Inv-loop
+    μ-loop
+    vertex-centroid-requires
+    loop-holds
     (λ c κs. search needs)
-    (λ c. let s = stretch-step (c .before .before .loop .inv .1) (search needs) (c .corner .ensures .0) in omega (arith, c .before .before .before .before .before .before .before .pre .0 .few-corners))
-    (λ c. stretch-step (c .before .before .loop .inv .1) (search needs) (c .corner .ensures .0) .from)
-    (λ c. stretch-step (c .before .before .loop .inv .1) (search needs) (c .corner .ensures .0) .from)
-    (λ c. let t = c .before .before .loop .inv .1 in let s = stretch-step t (search needs) (c .corner .ensures .0) in let z = t .long in omega arith)
-    (λ c κs. let t = c .before .before .before .loop .inv .1 in let q = c .before .corner .ensures .0 in (rw (stretch-part t (search needs) q) (each-slice (c .before .before .before .loop .start) (c .before .corner .result) _ (c .before .before .before .before .before .before .before .before .pre .0 .inside)), stretch-some t (search needs) q))
+    mul-face-outward
+    sub-face-outward
+    part-face-outward-start
+    part-face-outward-end
+    face-outward-requires
     (λ c. search needs)
     (λ c. search needs)
-    (λ c. let l = c .before .before .before .before .before .before .loop .inv in (l .0, stretch-next (l .1) (search needs) (c .before .before .before .before .corner .ensures .0) (length-outward _ _) (c .before .before .face-outward .ensures)))
-    (λ c. c .before .loop .inv .1 .long)
-    (λ c. stretch-end (c .before .loop .inv .1) (search needs)))
+    loop-again
+    same-length
+    returns)

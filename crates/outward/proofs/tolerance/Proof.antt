@@ -1,10 +1,26 @@
+-- `outward::tolerance` meets its contract: the three magnitudes and the three choices of the larger are the definition's, innermost first.
 use Rattle.outward.specs.Convexity.{toleranceOf}
 use borrow.Author.Needs.{needs}
 use Rattle.outward.proofs.tolerance.Statement.{statement}
 use Rattle.outward.proofs.tolerance.Tie as tie
 
-pub tolerance-spec : {M : Type 1} → statement M
+returns : tie.Need-returns
 unfolding toleranceOf
+returns c =
+    let x : tie.After-magnitude = search in
+    let y : tie.After-magnitude2 = search in
+    let z : tie.After-magnitude3 = search in
+    let larger : tie.After-largest = search in
+    rw (
+      ← x .magnitude .ensures,
+      ← y .magnitude2 .ensures,
+      ← z .magnitude3 .ensures,
+      ← larger .largest .ensures,
+      ← c .before .largest2 .ensures,
+      ← c .largest3 .ensures,
+    )
+
+pub tolerance-spec : {M : Type 1} → statement M
 tolerance-spec =
     tie.close
     (tie.spec
@@ -17,4 +33,4 @@ tolerance-spec =
     (λ c κs. search needs)
     (λ c κs. search needs)
     (λ c κs. search needs)
-    (λ c. rw (← c .before .before .before .before .before .magnitude .ensures, ← c .before .before .before .before .magnitude2 .ensures, ← c .before .before .before .magnitude3 .ensures, ← c .before .before .largest .ensures, ← c .before .largest2 .ensures, ← c .largest3 .ensures)))
+    returns)

@@ -1,6 +1,7 @@
-use Rattle.overlap.proofs.Sums.{facePatch, Beside, Adding, beside-start, beside-room, beside-next, ready-at, add-start, add-step, add-nothing, add-outline, add-refused, add-end, shown-points}
-use mathlib.Core.Path.{_≡_, refl, _∙_}
-use Prim.Native.Nat.{_-_, _*_}
+-- `overlap::add_faces` meets its contract: from face k on, with the sum so far, it comes to the sum over all faces; each face has its plane
+-- beside it, and the lists keep their lengths, so that the room for each face is the same.
+use mathlib.Core.Path.{_≡_, refl, ap, _∙_}
+use Prim.Native.Nat.{_-_}
 use native.Mathlib.Omega.{arith}
 use lib.ListN.{length}
 use Rattle.flat.specs.Points.{verticesOf}
@@ -8,41 +9,120 @@ use Rattle.cell.specs.Faces.{facesOf}
 use Rattle.planes.specs.Planes.{planesOf, inFours}
 use Rattle.planes.specs.Steps.{noPlane}
 use Rattle.planes.proofs.Faces.{facePlane}
-use Rattle.work_lists.proofs.Endings.{reads-threes, outline-fits, outline-small}
 use Rattle.overlap.specs.Overlap.{patchesOf, addedTo}
-use Rattle.overlap.proofs.Patches.{roomOf, same-room}
+use Rattle.overlap.specs.Steps.{roomOf}
+use Rattle.overlap.proofs.Patches.{same-room}
+use Rattle.overlap.proofs.Sums.{facePatch, Beside, beside-start, beside-room, beside-next, ready-at}
+use Rattle.overlap.proofs.Sums.{Adding, add-start, add-step, add-more, add-refused, add-end}
 use borrow.Author.Needs.{needs}
 use Rattle.overlap.proofs.add_faces.Statement.{statement}
 use Rattle.overlap.proofs.add_faces.Tie as tie
 
-pub add-faces-spec : {M : Type 1} → statement M
+abbrev Inv-loop : tie.InvT-loop
+Inv-loop coords corners ends both kept₀ first₀ second₀ other m n own planes sum₀ start₀ k₀ kept first second sum start k =
+    let vs = verticesOf coords in
+    let room = roomOf first₀ second₀ in
+    (length kept ≡ length kept₀) × (length first ≡ length first₀) × (length second ≡ length second₀)
+    × Beside (facePlane vs) corners ends (inFours own) start k
+    × Adding (m .reference) (facePatch other room m vs (inFours planes)) corners ends
+    (addedTo (m .reference) sum₀ (patchesOf other room m vs (facesOf corners ends) (inFours planes))) start k sum
+
+abbrev μ-loop : tie.MeasureT-loop
+μ-loop coords corners ends both kept₀ first₀ second₀ other m n own planes sum₀ start₀ k₀ kept first second sum start k =
+    length ends - k
+
+loop-holds : tie.Need-loop-holds Inv-loop μ-loop
 unfolding planesOf patchesOf
+loop-holds c =
+    let start : tie.Start Inv-loop μ-loop = search in
+    let cut : tie.After-own-part Inv-loop μ-loop = search in
+    let own-planes = ap inFours (cut .own-part .ensures) ∙ start .pre .1 .0 .own-planes in
+    (refl, refl, refl, beside-start own-planes, add-start (start .pre .0 .ordered))
+
+face-requires : tie.Need-face-requires Inv-loop μ-loop
+face-requires c κs =
+    let at : tie.At-loop Inv-loop μ-loop = search in
+    let step = add-step (at .loop .inv .4) (c .before .loop-test .taken) (c .corner .ensures .0) in
+    (step .from, step .upto)
+
+plane-at-requires : tie.Need-plane-at-requires Inv-loop μ-loop
+plane-at-requires c κs =
+    let inside : tie.In-loop Inv-loop μ-loop = search in
+    beside-room (inside .before .loop .inv .3) (inside .loop-test .taken)
+
+-- from the loop back to where the parts were cut, and to the call
+abbrev parts : tie.At-loop Inv-loop μ-loop → tie.After-other-part Inv-loop μ-loop
+parts c = search
+
+abbrev given : tie.At-loop Inv-loop μ-loop → tie.Start Inv-loop μ-loop
+given c = search
+
+add-face-requires : tie.Need-add-face-requires Inv-loop μ-loop
+add-face-requires c κs =
+    let found : tie.After-plane-at Inv-loop μ-loop = search in
+    let inside : tie.In-loop Inv-loop μ-loop = search in
+    let at = inside .before in
+    let pre = given at .pre in
+    let others = parts at .other-part .ensures in
+    let end = found .before .before .corner .ensures .0 in
+    let inv = at .loop .inv in (
+      ready-at (pre .0) (inv .3) (inside .loop-test .taken) end (found .before .face .ensures) (found .plane-at .ensures)
+          (rw others (pre .1 .0 .few-others)) (rw (inv .1) (pre .1 .1 .0)) (rw (inv .2) (pre .1 .1 .1)),
+      rw (others, inv .0) (pre .1 .0 .room),
+    )
+
+loop-again : tie.Need-loop-again Inv-loop μ-loop
+loop-again c =
+    let added : tie.After-add-face Inv-loop μ-loop = search in
+    let found : tie.After-plane-at Inv-loop μ-loop = search in
+    let inside : tie.In-loop Inv-loop μ-loop = search in
+    let told : tie.After-v Inv-loop μ-loop = search in
+    let loop = inside .before .loop in
+    let args = given (inside .before) .args in
+    let end = found .before .before .corner .ensures .0 in
+    let room = same-room (loop .first) (loop .second) (args .first .now) (args .second .now) (loop .inv .1) (loop .inv .2) in
+    let same = added .add-face .kept .1 .1 .1 .1 .1 in (
+      same .0 ∙ loop .inv .0,
+      same .1 .0 ∙ loop .inv .1,
+      same .1 .1 .0 ∙ loop .inv .2,
+      beside-next (loop .inv .3) (inside .loop-test .taken) noPlane end,
+      add-more (loop .inv .4) (inside .loop-test .taken) end (rw (room, found .before .face .ensures) at (added .add-face .ensures))
+          (told .v .given .1),
+    )
+
+no-room : tie.Need-returns Inv-loop μ-loop
+no-room c =
+    let added : tie.After-add-face Inv-loop μ-loop = search in
+    let found : tie.After-plane-at Inv-loop μ-loop = search in
+    let inside : tie.In-loop Inv-loop μ-loop = search in
+    let loop = inside .before .loop in
+    let args = given (inside .before) .args in
+    let end = found .before .before .corner .ensures .0 in
+    let room = same-room (loop .first) (loop .second) (args .first .now) (args .second .now) (loop .inv .1) (loop .inv .2) in
+    rw (← parts (inside .before) .other-part .ensures)
+    (add-refused (loop .inv .4) (inside .loop-test .taken) end (rw (room, found .before .face .ensures) at (added .add-face .ensures))
+    (c .enum-told .given .1))
+
+returns : tie.Need-returns-2 Inv-loop μ-loop
+returns c = rw (← parts (c .before) .other-part .ensures) (add-end (c .before .loop .inv .4) (c .loop-test .left))
+
+pub add-faces-spec : {M : Type 1} → statement M
 add-faces-spec =
     tie.close
     (tie.spec
-    (λ other coords corners ends own planes kept₀ m v first₀ second₀ reference sum₀ start₀ k₀ kept first second sum start k. (length kept ≡ length kept₀) × (length first ≡ length first₀) × (length second ≡ length second₀) × Beside (facePlane (verticesOf coords)) corners ends (inFours own) start k × Adding (m .reference) (facePatch other (roomOf first₀ second₀) m (verticesOf coords) (inFours planes)) corners ends (addedTo (m .reference) v (patchesOf other (roomOf first₀ second₀) m (verticesOf coords) (facesOf corners ends) (inFours planes))) start k sum)
-    (λ other coords corners ends own planes kept₀ m v first₀ second₀ reference sum₀ start₀ k₀ kept first second sum start k. length ends - k)
-    (λ c. (refl, refl, refl, beside-start (c .before .before .before .before .before .before .before .before .before .pre .1 .0), add-start (c .before .before .before .before .before .before .before .before .before .pre .0 .ordered)))
+    Inv-loop
+    μ-loop
+    (λ c. omega arith)
+    (λ c κs. search needs) (λ c κs. search needs)
+    loop-holds
     (λ c κs. search needs)
-    (λ c κs. let step = add-step (c .before .before .loop .inv .4) (c .before .loop-test .taken) (c .corner .ensures .0) in (step .from, step .upto))
-    (λ c κs. beside-room (c .before .before .before .loop .inv .3) (c .before .before .loop-test .taken))
+    face-requires
+    plane-at-requires
     (λ c. omega arith)
-    (λ c κs. (ready-at (c .before .before .before .before .before .before .before .before .before .before .before .before .before .before .before .before .before .pre .0) (c .before .before .before .before .before .before .before .loop .inv .3) (c .before .before .before .before .before .before .loop-test .taken) (c .before .before .before .before .before .corner .ensures .0) (c .before .before .before .before .face .ensures) (c .before .before .before .plane-at .ensures) (c .before .before .before .before .before .before .before .before .before .before .before .before .before .before .before .before .before .pre .1 .1 .0 .0) (rw (c .before .before .before .before .before .before .before .loop .inv .1) (c .before .before .before .before .before .before .before .before .before .before .before .before .before .before .before .before .before .pre .1 .1 .1 .0)) (rw (c .before .before .before .before .before .before .before .loop .inv .2) (c .before .before .before .before .before .before .before .before .before .before .before .before .before .before .before .before .before .pre .1 .1 .1 .1)), rw (c .before .before .before .before .before .before .before .loop .inv .0) (c .before .before .before .before .before .before .before .before .before .before .before .before .before .before .before .before .before .pre .1 .1 .0 .1)))
-    (λ c. search needs)
-    (λ c. omega arith)
-    (λ c. (c .before .before .before .before .before .before .before .before .patch .kept .1 .1 .1 .1 .1 .0 ∙ c .before .before .before .before .before .before .before .before .before .before .before .before .before .before .before .before .loop .inv .0, c .before .before .before .before .before .before .before .before .patch .kept .1 .1 .1 .1 .1 .1 .1 .0 ∙ c .before .before .before .before .before .before .before .before .before .before .before .before .before .before .before .before .loop .inv .1, c .before .before .before .before .before .before .before .before .patch .kept .1 .1 .1 .1 .1 .1 .1 .1 .0 ∙ c .before .before .before .before .before .before .before .before .before .before .before .before .before .before .before .before .loop .inv .2, beside-next (c .before .before .before .before .before .before .before .before .before .before .before .before .before .before .before .before .loop .inv .3) (c .before .before .before .before .before .before .before .before .before .before .before .before .before .before .before .loop-test .taken) noPlane (c .before .before .before .before .before .before .before .before .before .before .before .before .before .before .corner .ensures .0), add-nothing (c .before .before .before .before .before .before .before .before .before .before .before .before .before .before .before .before .loop .inv .4) (c .before .before .before .before .before .before .before .before .before .before .before .before .before .before .before .loop-test .taken) (c .before .before .before .before .before .before .before .before .before .before .before .before .before .before .corner .ensures .0) (rw (same-room (c .before .before .before .before .before .before .before .before .before .before .before .before .before .before .before .before .loop .first) (c .before .before .before .before .before .before .before .before .before .before .before .before .before .before .before .before .loop .second) (c .before .before .before .before .before .before .before .before .before .before .before .before .before .before .before .before .before .before .before .before .before .before .before .before .before .before .args .first .now) (c .before .before .before .before .before .before .before .before .before .before .before .before .before .before .before .before .before .before .before .before .before .before .before .before .before .before .args .second .now) (c .before .before .before .before .before .before .before .before .before .before .before .before .before .before .before .before .loop .inv .1) (c .before .before .before .before .before .before .before .before .before .before .before .before .before .before .before .before .loop .inv .2), c .before .before .before .before .before .before .before .before .before .before .before .before .before .face .ensures, c .enum-told .given .1) at (c .before .before .before .before .before .before .before .before .patch .ensures))))
-    (λ c. search needs)
-    (λ c. omega (arith, outline-small reads-threes (rw (c .before .before .before .n .given .1) at (c .before .before .before .before .before .before .before .before .before .before .before .patch .ensures)) {k = 3072} (rw (c .before .before .before .before .before .before .before .before .before .before .before .patch .kept .1 .1 .1 .1 .1 .1 .1 .0, c .before .before .before .before .before .before .before .before .before .before .before .before .before .before .before .before .before .before .before .loop .inv .1) (c .before .before .before .before .before .before .before .before .before .before .before .before .before .before .before .before .before .before .before .before .before .before .before .before .before .before .before .before .before .pre .1 .1 .1 .0)) (rw (c .before .before .before .before .before .before .before .before .before .before .before .patch .kept .1 .1 .1 .1 .1 .1 .1 .1 .0, c .before .before .before .before .before .before .before .before .before .before .before .before .before .before .before .before .before .before .before .loop .inv .2) (c .before .before .before .before .before .before .before .before .before .before .before .before .before .before .before .before .before .before .before .before .before .before .before .before .before .before .before .before .before .pre .1 .1 .1 .1))))
-    (λ c κs. outline-fits reads-threes (rw (c .before .before .before .n .given .1) at (c .before .before .before .before .before .before .before .before .before .before .before .patch .ensures)))
-    (λ c κs. search needs)
-    (λ c. omega arith)
-    (λ c. (c .before .before .before .before .before .before .before .before .before .before .before .before .before .patch .kept .1 .1 .1 .1 .1 .0 ∙ c .before .before .before .before .before .before .before .before .before .before .before .before .before .before .before .before .before .before .before .before .before .loop .inv .0, c .before .before .before .before .before .before .before .before .before .before .before .before .before .patch .kept .1 .1 .1 .1 .1 .1 .1 .0 ∙ c .before .before .before .before .before .before .before .before .before .before .before .before .before .before .before .before .before .before .before .before .before .loop .inv .1, c .before .before .before .before .before .before .before .before .before .before .before .before .before .patch .kept .1 .1 .1 .1 .1 .1 .1 .1 .0 ∙ c .before .before .before .before .before .before .before .before .before .before .before .before .before .before .before .before .before .before .before .before .before .loop .inv .2, beside-next (c .before .before .before .before .before .before .before .before .before .before .before .before .before .before .before .before .before .before .before .before .before .loop .inv .3) (c .before .before .before .before .before .before .before .before .before .before .before .before .before .before .before .before .before .before .before .before .loop-test .taken) noPlane (c .before .before .before .before .before .before .before .before .before .before .before .before .before .before .before .before .before .before .before .corner .ensures .0), add-outline (c .before .before .before .before .before .before .before .before .before .before .before .before .before .before .before .before .before .before .before .before .before .loop .inv .4) (c .before .before .before .before .before .before .before .before .before .before .before .before .before .before .before .before .before .before .before .before .loop-test .taken) (c .before .before .before .before .before .before .before .before .before .before .before .before .before .before .before .before .before .before .before .corner .ensures .0) (rw (same-room (c .before .before .before .before .before .before .before .before .before .before .before .before .before .before .before .before .before .before .before .before .before .loop .first) (c .before .before .before .before .before .before .before .before .before .before .before .before .before .before .before .before .before .before .before .before .before .loop .second) (c .before .before .before .before .before .before .before .before .before .before .before .before .before .before .before .before .before .before .before .before .before .before .before .before .before .before .before .before .before .before .before .args .first .now) (c .before .before .before .before .before .before .before .before .before .before .before .before .before .before .before .before .before .before .before .before .before .before .before .before .before .before .before .before .before .before .before .args .second .now) (c .before .before .before .before .before .before .before .before .before .before .before .before .before .before .before .before .before .before .before .before .before .loop .inv .1) (c .before .before .before .before .before .before .before .before .before .before .before .before .before .before .before .before .before .before .before .before .before .loop .inv .2), c .before .before .before .before .before .before .before .before .before .before .before .before .before .before .before .before .before .before .face .ensures, c .before .before .before .before .before .n .given .1) at (c .before .before .before .before .before .before .before .before .before .before .before .before .before .patch .ensures)) (rw (c .contribution .ensures, c .before .shown .ensures, shown-points))))
-    (λ c. search needs)
-    (λ c. c .before .before .before .before .before .before .before .before .patch .kept .1 .1 .1 .1 .1 .0 ∙ c .before .before .before .before .before .before .before .before .before .before .before .before .before .before .before .before .loop .inv .0)
-    (λ c. c .before .before .before .before .before .before .before .before .patch .kept .1 .1 .1 .1 .1 .1 .1 .0 ∙ c .before .before .before .before .before .before .before .before .before .before .before .before .before .before .before .before .loop .inv .1)
-    (λ c. c .before .before .before .before .before .before .before .before .patch .kept .1 .1 .1 .1 .1 .1 .1 .1 .0 ∙ c .before .before .before .before .before .before .before .before .before .before .before .before .before .before .before .before .loop .inv .2)
-    (λ c. add-refused (c .before .before .before .before .before .before .before .before .before .before .before .before .before .before .before .before .loop .inv .4) (c .before .before .before .before .before .before .before .before .before .before .before .before .before .before .before .loop-test .taken) (c .before .before .before .before .before .before .before .before .before .before .before .before .before .before .corner .ensures .0) (rw (same-room (c .before .before .before .before .before .before .before .before .before .before .before .before .before .before .before .before .loop .first) (c .before .before .before .before .before .before .before .before .before .before .before .before .before .before .before .before .loop .second) (c .before .before .before .before .before .before .before .before .before .before .before .before .before .before .before .before .before .before .before .before .before .before .before .before .before .before .args .first .now) (c .before .before .before .before .before .before .before .before .before .before .before .before .before .before .before .before .before .before .before .before .before .before .before .before .before .before .args .second .now) (c .before .before .before .before .before .before .before .before .before .before .before .before .before .before .before .before .loop .inv .1) (c .before .before .before .before .before .before .before .before .before .before .before .before .before .before .before .before .loop .inv .2), c .before .before .before .before .before .before .before .before .before .before .before .before .before .face .ensures, c .enum-told2 .given .1) at (c .before .before .before .before .before .before .before .before .patch .ensures)))
-    (λ c. c .before .loop .inv .0)
-    (λ c. c .before .loop .inv .1)
-    (λ c. c .before .loop .inv .2)
-    (λ c. add-end (c .before .loop .inv .4) (c .loop-test .left)))
+    add-face-requires
+    (λ c. search needs) (λ c. omega arith)
+    loop-again
+    (λ c. search needs) (λ c. omega arith) (λ c. omega arith) (λ c. omega arith)
+    no-room
+    (λ c. omega arith) (λ c. omega arith) (λ c. omega arith)
+    returns)

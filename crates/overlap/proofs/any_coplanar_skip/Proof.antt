@@ -1,3 +1,5 @@
+-- `overlap::any_coplanar_skip` meets its contract: while no plane before place i says yes, the answer for all planes is that for the planes
+-- from i on.
 use mathlib.Core.Path.{_≡_, refl, sym}
 use Prim.Native.Nat.{_-_}
 use lib.ListN.{length}
@@ -11,17 +13,39 @@ use borrow.Author.Needs.{needs}
 use Rattle.overlap.proofs.any_coplanar_skip.Statement.{statement}
 use Rattle.overlap.proofs.any_coplanar_skip.Tie as tie
 
+abbrev Inv-loop : tie.InvT-loop
+Inv-loop other plane planes tol n i₀ i =
+    (n ≡ length (inFours planes)) ×
+    Asking (coplanarSkip other plane tol) (inFours planes) (anyOf (coplanarSkip other plane tol) (inFours planes)) i
+
+abbrev μ-loop : tie.MeasureT-loop
+μ-loop other plane planes tol n i₀ i = n - i
+
+loop-holds : tie.Need-loop-holds Inv-loop μ-loop
+loop-holds c = (sym (length-fours (c .before .args .planes .now)), ask-start refl)
+
+returns : tie.Need-returns Inv-loop μ-loop
+returns c =
+    let loop = c .before .before .before .before .loop in
+    ask-yes noPlane (loop .inv .1) (search needs) (cc)
+
+loop-again : tie.Need-loop-again Inv-loop μ-loop
+loop-again c =
+    let loop = c .before .before .before .before .loop in
+    (loop .inv .0, ask-no noPlane (loop .inv .1) (search needs) (cc))
+
+returns-2 : tie.Need-returns-2 Inv-loop μ-loop
+returns-2 c = ask-end (c .before .loop .inv .1) (search needs)
+
 pub any-coplanar-skip-spec : {M : Type 1} → statement M
 any-coplanar-skip-spec =
     tie.close
     (tie.spec
-    (λ other plane planes tol n i₀ i. (n ≡ length (inFours planes)) × Asking (coplanarSkip other plane tol) (inFours planes) (anyOf (coplanarSkip other plane tol) (inFours planes)) i)
-    (λ other plane planes tol n i₀ i. n - i)
-    (λ c. (sym (length-fours (c .before .args .planes .now)), ask-start refl))
-    (λ c κs. search needs)
-    (λ c κs. search needs)
-    (λ c. ask-yes noPlane (c .before .before .before .before .loop .inv .1) (search needs) (cc))
-    (λ c. search needs)
-    (λ c. search needs)
-    (λ c. (c .before .before .before .before .loop .inv .0, ask-no noPlane (c .before .before .before .before .loop .inv .1) (search needs) (cc)))
-    (λ c. ask-end (c .before .loop .inv .1) (search needs)))
+    Inv-loop
+    μ-loop
+    loop-holds
+    (λ c κs. search needs) (λ c κs. search needs)
+    returns
+    (λ c. search needs) (λ c. search needs)
+    loop-again
+    returns-2)

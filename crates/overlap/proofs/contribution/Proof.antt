@@ -1,3 +1,5 @@
+-- `overlap::contribution` meets its contract: from place i on, with the point before it already taken from the reference, the sum comes
+-- to the whole fan's; an outline under 3 points has no triangle, and 0 is the sum of none.
 use mathlib.Core.Path.{_≡_, sym}
 use Prim.Native.Nat.{_-_}
 use lib.ListN.{length, getD}
@@ -10,22 +12,60 @@ use borrow.Author.Needs.{needs}
 use Rattle.overlap.proofs.contribution.Statement.{statement}
 use Rattle.overlap.proofs.contribution.Tie as tie
 
+abbrev Inv-loop : tie.InvT-loop
+Inv-loop s reference n p a₀ v₀ i₀ a v i =
+    (n ≡ length (verticesOf s)) × (p ≡ minusOf 3 (getD (verticesOf s) 0 []) reference) ×
+    Fanning reference (getD (verticesOf s) 0 []) (verticesOf s) (fanOf reference (verticesOf s)) i a v
+
+abbrev μ-loop : tie.MeasureT-loop
+μ-loop s reference n p a₀ v₀ i₀ a v i = n - i
+
+returns : tie.Need-returns Inv-loop μ-loop
+returns c =
+    let args = c .before .before .args in
+    contribution-none (args .reference) _ (omega (arith, length-threes (args .s .now)))
+
+vertex-requires : tie.Need-vertex-requires Inv-loop μ-loop
+vertex-requires c κs =
+    let args = c .before .before .args in
+    omega (arith, length-threes (args .s .now))
+
+vertex-requires-2 : tie.Need-vertex-requires-2 Inv-loop μ-loop
+vertex-requires-2 c κs =
+    let args = c .before .before .before .before .args in
+    omega (arith, length-threes (args .s .now))
+
+loop-holds : tie.Need-loop-holds Inv-loop μ-loop
+loop-holds c =
+    let start : tie.Start Inv-loop μ-loop = search in
+    let args = start .args in
+    (sym (length-threes (args .s .now)), cc, fan-start (omega (arith, length-threes (args .s .now))) (cc))
+
+loop-again : tie.Need-loop-again Inv-loop μ-loop
+loop-again c =
+    let loop = c .before .before .before .before .loop in
+    (loop .inv .0, loop .inv .1, fan-next (loop .inv .2) (search needs) (cc) (cc))
+
+returns-2 : tie.Need-returns-2 Inv-loop μ-loop
+returns-2 c =
+    let loop = c .before .loop in
+    let start : tie.Start Inv-loop μ-loop = search in
+    let args = start .args in
+    rw (fan-end (loop .inv .2) (omega (arith, loop .inv .0)))
+    (contribution-is (args .reference) _ (omega (arith, length-threes (args .s .now))))
+
 pub contribution-spec : {M : Type 1} → statement M
 contribution-spec =
     tie.close
     (tie.spec
-    (λ s reference n p a₀ v₀ i₀ a v i. (n ≡ length (verticesOf s)) × (p ≡ minusOf 3 (getD (verticesOf s) 0 []) reference) × Fanning reference (getD (verticesOf s) 0 []) (verticesOf s) (fanOf reference (verticesOf s)) i a v)
-    (λ s reference n p a₀ v₀ i₀ a v i. n - i)
-    (λ c. contribution-none (c .before .before .args .reference) _ (omega (arith, length-threes (c .before .before .args .s .now))))
-    (λ c κs. omega (arith, length-threes (c .before .before .args .s .now)))
+    Inv-loop
+    μ-loop
+    returns
+    vertex-requires
     (λ c κs. search needs)
-    (λ c κs. omega (arith, length-threes (c .before .before .before .before .args .s .now)))
+    vertex-requires-2
     (λ c κs. search needs)
-    (λ c. (sym (length-threes (c .before .before .before .before .before .before .args .s .now)), cc, fan-start (omega (arith, length-threes (c .before .before .before .before .before .before .args .s .now))) (cc)))
-    (λ c κs. search needs)
-    (λ c κs. search needs)
-    (λ c κs. search needs)
-    (λ c. search needs)
-    (λ c. search needs)
-    (λ c. (c .before .before .before .before .loop .inv .0, c .before .before .before .before .loop .inv .1, fan-next (c .before .before .before .before .loop .inv .2) (search needs) (cc) (cc)))
-    (λ c. rw (fan-end (c .before .loop .inv .2) (omega (arith, c .before .loop .inv .0))) (contribution-is (c .before .before .before .before .before .before .before .before .args .reference) _ (omega (arith, length-threes (c .before .before .before .before .before .before .before .before .args .s .now))))))
+    loop-holds
+    (λ c κs. search needs) (λ c κs. search needs) (λ c κs. search needs) (λ c. search needs) (λ c. search needs)
+    loop-again
+    returns-2)

@@ -1,15 +1,36 @@
+-- `overlap::coplanar_skip` meets its contract: `other` says which case of the definition it is, and the tests of the second cell's case
+-- are asked in their order, so that the first that holds decides.
 use borrow.Author.Tests.{not-true, not-false}
 use borrow.Author.Needs.{needs}
 use Rattle.overlap.proofs.coplanar_skip.Statement.{statement}
 use Rattle.overlap.proofs.coplanar_skip.Tie as tie
+
+returns : tie.Need-returns
+returns c =
+    let args = c .before .before .args in
+    rw (not-true (args .other) (c .before .if1 .taken)) (c .plane-coplanar-opposite .ensures)
+
+returns-2 : tie.Need-returns-2
+returns-2 c =
+    let if1 = c .before .before .if1 in
+    let args = c .before .before .before .args in
+    rw (not-false (args .other) (if1 .left), ← c .before .plane-coplanar-opposite2 .ensures, c .if2 .taken)
+
+returns-3 : tie.Need-returns-3
+returns-3 c =
+    let plane-coplanar-opposite2 = c .before .before .plane-coplanar-opposite2 in
+    let if1 = c .before .before .before .if1 in
+    let args = c .before .before .before .before .args in
+    rw (not-false (args .other) (if1 .left), ← plane-coplanar-opposite2 .ensures, c .before .if2 .left)
+    (c .plane-same-side .ensures)
 
 pub coplanar-skip-spec : {M : Type 1} → statement M
 coplanar-skip-spec =
     tie.close
     (tie.spec
     (λ c κs. search needs)
-    (λ c. rw (not-true (c .before .before .args .other) (c .before .if1 .taken)) (c .plane-coplanar-opposite .ensures))
+    returns
     (λ c κs. search needs)
-    (λ c. rw (not-false (c .before .before .before .args .other) (c .before .before .if1 .left), ← c .before .plane-coplanar-opposite2 .ensures, c .if2 .taken))
+    returns-2
     (λ c κs. search needs)
-    (λ c. rw (not-false (c .before .before .before .before .args .other) (c .before .before .before .if1 .left), ← c .before .before .plane-coplanar-opposite2 .ensures, c .before .if2 .left) (c .plane-same-side .ensures)))
+    returns-3)

@@ -1,17 +1,25 @@
+-- `overlap::patch` meets its contract: `other` says which case of the definition it is, and the function of that case is called.
 use borrow.Author.Needs.{needs}
 use Rattle.overlap.proofs.patch.Statement.{statement}
 use Rattle.overlap.proofs.patch.Tie as tie
+
+returns : tie.Need-returns
+returns c =
+    let asked : tie.Then1 = search in
+    let left : tie.After-second-patch = search in
+    rw (asked .if1 .taken) (left .second-patch .ensures)
+
+returns-2 : tie.Need-returns-2
+returns-2 c =
+    let asked : tie.Else1 = search in
+    let left : tie.After-first-patch = search in
+    rw (asked .if1 .left) (left .first-patch .ensures)
 
 pub patch-spec : {M : Type 1} → statement M
 patch-spec =
     tie.close
     (tie.spec
-    (λ c κs. search needs)
-    (λ c. search needs)
-    (λ c. search needs)
-    (λ c. rw (c .before .before .before .before .before .before .before .if1 .taken) (c .before .before .before .before .second-patch .ensures))
-    (λ c κs. search needs)
-    (λ c. search needs)
-    (λ c. search needs)
-    (λ c. search needs)
-    (λ c. rw (c .before .before .before .before .before .before .before .before .before .before .if1 .left) (c .before .before .before .before .before .before .first-patch .ensures)))
+    (λ c κs. search needs) (λ c. search needs) (λ c. search needs)
+    returns
+    (λ c κs. search needs) (λ c. search needs) (λ c. search needs) (λ c. search needs)
+    returns-2)

@@ -1,3 +1,5 @@
+-- `places::reverse_corners` meets its contract: the swaps from place i to the middle, done on the list as it is now, make the reversed list
+-- (`Folding` of `mirror`).
 use mathlib.Core.Path.{_≡_, refl, _∙_}
 use mathlib.Core.List.{reverse}
 use Prim.Native.Nat.{_-_, _/_}
@@ -9,18 +11,43 @@ use borrow.Author.Needs.{needs}
 use Rattle.places.proofs.reverse_corners.Statement.{statement}
 use Rattle.places.proofs.reverse_corners.Tie as tie
 
+abbrev Inv-loop : tie.InvT-loop
+Inv-loop face₀ n half i₀ face i =
+    (n ≡ length face₀) × (half ≡ n / 2) × (length face ≡ length face₀) × Folding (mirror 0 n) (n / 2) (reverse face₀) i face
+
+abbrev μ-loop : tie.MeasureT-loop
+μ-loop face₀ n half i₀ face i = half - i
+
+loop-holds : tie.Need-loop-holds Inv-loop μ-loop
+loop-holds c =
+    let start : tie.Start Inv-loop μ-loop = search in
+    (refl, refl, refl, mirror-start 0 _ (start .args .face .now) refl)
+
+swap-corners-requires : tie.Need-swap-corners-requires Inv-loop μ-loop
+swap-corners-requires c κs = (omega arith, omega arith)
+
+loop-again : tie.Need-loop-again Inv-loop μ-loop
+loop-again c =
+    let at : tie.At-loop Inv-loop μ-loop = search in
+    let inv = at .loop .inv in
+    let swapped : tie.After-swap-corners Inv-loop μ-loop = search in
+    (inv .0, inv .1, swapped .swap-corners .kept .0 ∙ inv .2, mirror-next 0 _ (inv .3) (omega arith) (cc))
+
+returns : tie.Need-returns Inv-loop μ-loop
+returns c = fold-end (c .before .loop .inv .3) (omega arith)
+
 pub reverse-corners-spec : {M : Type 1} → statement M
 reverse-corners-spec =
     tie.close
     (tie.spec
-    (λ face₀ n half i₀ face i. (n ≡ length face₀) × (half ≡ n / 2) × (length face ≡ length face₀) × Folding (mirror 0 n) (n / 2) (reverse face₀) i face)
-    (λ face₀ n half i₀ face i. half - i)
-    (λ c. (refl, refl, refl, mirror-start 0 _ (c .before .args .face .now) refl))
+    Inv-loop
+    μ-loop
+    loop-holds
     (λ c. search needs)
     (λ c. search needs)
-    (λ c κs. (omega arith, omega arith))
+    swap-corners-requires
     (λ c. search needs)
     (λ c. search needs)
-    (λ c. let l = c .before .before .before .before .before .loop .inv in (l .0, l .1, c .before .before .swap-corners .kept .0 ∙ l .2, mirror-next 0 _ (l .3) (omega arith) (cc)))
+    loop-again
     (λ c. search needs)
-    (λ c. fold-end (c .before .loop .inv .3) (omega arith)))
+    returns)

@@ -1,3 +1,5 @@
+-- `planar::gather` meets its contract: the points before place i stand at the front of the list, and those left to lay down make, with
+-- them, the whole outline.
 use mathlib.Core.Path.{_≡_, refl, sym, _∙_}
 use mathlib.Core.List.{[]}
 use Prim.Native.Nat.{_-_}
@@ -10,17 +12,47 @@ use borrow.Author.Needs.{needs}
 use Rattle.planar.proofs.gather.Statement.{statement}
 use Rattle.planar.proofs.gather.Tie as tie
 
+abbrev Inv-loop : tie.InvT-loop
+Inv-loop src dst₀ n i₀ dst i =
+    (n ≡ length (inPairs src)) × (length dst ≡ length dst₀) ×
+    Rest (inPairs src) (inPairs dst₀) i (drop i (inPairs src)) (inPairs dst)
+
+abbrev μ-loop : tie.MeasureT-loop
+μ-loop src dst₀ n i₀ dst i = n - i
+
+loop-holds : tie.Need-loop-holds Inv-loop μ-loop
+loop-holds c =
+    let args = c .before .before .args in
+    (sym (length-pairs (args .src .now)), refl, rest-start)
+
+put-pair-requires : tie.Need-put-pair-requires Inv-loop μ-loop
+put-pair-requires c κs =
+    let loop = c .before .before .before .loop in
+    omega (arith, rest-length (loop .inv .2))
+
+loop-again : tie.Need-loop-again Inv-loop μ-loop
+loop-again c =
+    let put-pair = c .before .before .put-pair in
+    let pair = c .before .before .before .pair in
+    let loop = c .before .before .before .before .before .before .loop in (
+      loop .inv .0,
+      put-pair .kept .0 ∙ loop .inv .1,
+      lay-next [] (loop .inv .2) (search needs) (pair .ensures) (put-pair .ensures .0),
+    )
+
+returns : tie.Need-returns Inv-loop μ-loop
+returns c = lay-end (c .before .loop .inv .2) (search needs) (search needs)
+
 pub gather-spec : {M : Type 1} → statement M
 gather-spec =
     tie.close
     (tie.spec
-    (λ src dst₀ n i₀ dst i. (n ≡ length (inPairs src)) × (length dst ≡ length dst₀) × Rest (inPairs src) (inPairs dst₀) i (drop i (inPairs src)) (inPairs dst))
-    (λ src dst₀ n i₀ dst i. n - i)
-    (λ c. (sym (length-pairs (c .before .before .args .src .now)), refl, rest-start))
+    Inv-loop
+    μ-loop
+    loop-holds
     (λ c κs. search needs)
-    (λ c κs. omega (arith, rest-length (c .before .before .before .loop .inv .2)))
+    put-pair-requires
+    (λ c. search needs) (λ c. search needs)
+    loop-again
     (λ c. search needs)
-    (λ c. search needs)
-    (λ c. (c .before .before .before .before .before .before .loop .inv .0, c .before .before .put .kept .0 ∙ c .before .before .before .before .before .before .loop .inv .1, lay-next [] (c .before .before .before .before .before .before .loop .inv .2) (search needs) (c .before .before .before .pair .ensures) (c .before .before .put .ensures .0)))
-    (λ c. c .before .loop .inv .1)
-    (λ c. lay-end (c .before .loop .inv .2) (search needs) (search needs)))
+    returns)

@@ -1,49 +1,119 @@
-use mathlib.Core.Path.{_≡_, refl, sym, _∙_}
+-- `planar::run` meets its contract: the edges that are left, run from the outline that stands, make the whole outcome; each answer of
+-- `advance_from` keeps that or ends the run, by the laws of the alternation.
+use mathlib.Core.Path.{_≡_, refl, sym}
 use mathlib.Core.Bool.{false}
 use mathlib.Core.List.{[]}
 use Prim.Native.Nat.{_-_}
-use lib.ListN.{length, take}
+use lib.ListN.{length, take, getD}
 use Rattle.places.specs.Stored.{inPairs}
 use Rattle.places.specs.Ring.{sides}
 use Rattle.places.proofs.Stored.{length-pairs}
 use Rattle.places.proofs.Rings.{length-sides}
-use Rattle.work_lists.specs.WorkLists.{runOf}
-use Rattle.work_lists.proofs.Alternation.{Alternating, alternate-start, alternate-gone, alternate-full, alternate-kept, alternate-made, alternate-none, alternate-end}
+use Rattle.work_lists.specs.WorkLists.{outline, runOf}
+use Rattle.work_lists.proofs.Alternation.{Alternating, alternate-start, alternate-gone, alternate-full, alternate-kept, alternate-made}
+use Rattle.work_lists.proofs.Alternation.{alternate-none, alternate-end}
 use Rattle.planar.specs.Planar.{edgeChange}
 use Rattle.planar.proofs.Edges.{edge-at}
 use borrow.Author.Needs.{needs}
 use Rattle.planar.proofs.run.Statement.{statement}
 use Rattle.planar.proofs.run.Tie as tie
 
+abbrev Inv-loop : tie.InvT-loop
+Inv-loop first₀ second₀ count room clip many n₀ in-second₀ i₀ first second n in-second i =
+    (many ≡ length (inPairs clip)) ×
+    Alternating inPairs room (edgeChange room) (sides (inPairs clip))
+    (runOf (edgeChange room) (sides (inPairs clip)) (outline false (take count (inPairs first₀)))) first₀ second₀ i n in-second
+    first second
+
+abbrev μ-loop : tie.MeasureT-loop
+μ-loop first₀ second₀ count room clip many n₀ in-second₀ i₀ first second n in-second i = many - i
+
+loop-holds : tie.Need-loop-holds Inv-loop μ-loop
+loop-holds c =
+    let args = c .before .before .before .args in
+    (sym (length-pairs (args .clip .now)), alternate-start (search needs) (search needs) (search needs) refl)
+
+-- the two points that were read are the ends of the edge that the loop has come to
+edge : (c : tie.After-pair2 Inv-loop μ-loop) →
+    let start : tie.Start Inv-loop μ-loop = search in
+    let at : tie.At-loop Inv-loop μ-loop = search in
+    (c .before .before .pair .result, c .pair2 .result) ≡ getD (sides (inPairs (start .args .clip .now))) (at .loop .i) ([], [])
+edge c =
+    let start : tie.Start Inv-loop μ-loop = search in
+    let at : tie.At-loop Inv-loop μ-loop = search in
+    let pair = c .before .before .pair in
+    edge-at (inPairs (start .args .clip .now)) (at .loop .inv .0) (search needs) (pair .ensures) (c .before .next .ensures .0)
+    (c .pair2 .ensures)
+
+stays-whole : tie.Need-loop-again Inv-loop μ-loop
+stays-whole c =
+    let at : tie.At-loop Inv-loop μ-loop = search in
+    let read : tie.After-pair2 Inv-loop μ-loop = search in
+    let record { before = _; advance-from = advance-from } : tie.After-advance-from Inv-loop μ-loop = search in (
+      at .loop .inv .0,
+      alternate-kept (at .loop .inv .1) ([], []) (rw length-sides (search needs)) (edge read) (advance-from .kept .0)
+          (advance-from .kept .1 .0) (rw (c .enum-told .given .1) at (advance-from .ensures)),
+    )
+
+nothing-left : tie.Need-returns Inv-loop μ-loop
+nothing-left c =
+    let at : tie.At-loop Inv-loop μ-loop = search in
+    let read : tie.After-pair2 Inv-loop μ-loop = search in
+    let record { before = _; advance-from = advance-from } : tie.After-advance-from Inv-loop μ-loop = search in
+    alternate-gone (at .loop .inv .1) ([], []) (rw length-sides (search needs)) (edge read)
+    (rw (c .enum-told2 .given .1) at (advance-from .ensures))
+
+no-room : tie.Need-returns-2 Inv-loop μ-loop
+no-room c =
+    let at : tie.At-loop Inv-loop μ-loop = search in
+    let read : tie.After-pair2 Inv-loop μ-loop = search in
+    let record { before = _; advance-from = advance-from } : tie.After-advance-from Inv-loop μ-loop = search in
+    alternate-full (at .loop .inv .1) ([], []) (rw length-sides (search needs)) (edge read)
+    (rw (c .enum-told3 .given .1) at (advance-from .ensures))
+
+goes-on : tie.Need-loop-again-2 Inv-loop μ-loop
+goes-on c =
+    let at : tie.At-loop Inv-loop μ-loop = search in
+    let read : tie.After-pair2 Inv-loop μ-loop = search in
+    let record { before = _; advance-from = advance-from } : tie.After-advance-from Inv-loop μ-loop = search in (
+      at .loop .inv .0,
+      alternate-made (at .loop .inv .1) ([], []) (rw length-sides (search needs)) (edge read) (advance-from .kept .0)
+          (advance-from .kept .1 .0) (rw (c .before .left .given .1) at (advance-from .ensures)),
+    )
+
+no-points : tie.Need-returns-3 Inv-loop μ-loop
+no-points c =
+    let loop = c .before .before .loop in
+    alternate-none (loop .inv .1) (rw length-sides (search needs)) (c .if1 .taken)
+
+outline-left : tie.Need-returns-4 Inv-loop μ-loop
+outline-left c =
+    let loop = c .before .before .loop in
+    alternate-end (loop .inv .1) (rw length-sides (search needs)) (c .if1 .left)
+
 pub run-spec : {M : Type 1} → statement M
 run-spec =
     tie.close
     (tie.spec
-    (λ first₀ second₀ count room clip many n₀ in-second₀ i₀ first second n in-second i. (many ≡ length (inPairs clip)) × (length first ≡ length first₀) × (length second ≡ length second₀) × Alternating room (edgeChange room) (sides (inPairs clip)) (runOf (edgeChange room) (sides (inPairs clip)) false (take count (inPairs first₀))) i n in-second (inPairs first) (inPairs second))
-    (λ first₀ second₀ count room clip many n₀ in-second₀ i₀ first second n in-second i. many - i)
-    (λ c. (sym (length-pairs (c .before .before .before .args .clip .now)), refl, refl, alternate-start (search needs) (search needs) (search needs) refl))
-    (λ c κs. search needs)
-    (λ c κs. search needs)
-    (λ c κs. search needs)
-    (λ c. search needs)
-    (λ c κs. search needs)
+    Inv-loop
+    μ-loop
+    loop-holds
+    (λ c κs. search needs) (λ c κs. search needs) (λ c κs. search needs) (λ c. search needs) (λ c κs. search needs)
+    (λ c. search needs) (λ c. search needs)
+    stays-whole
     (λ c. search needs)
     (λ c. search needs)
-    (λ c. (c .before .before .before .before .before .before .before .before .before .before .before .before .before .loop .inv .0, c .before .before .before .before .before .before .advance-from .kept .0 ∙ c .before .before .before .before .before .before .before .before .before .before .before .before .before .loop .inv .1, c .before .before .before .before .before .before .advance-from .kept .1 .0 ∙ c .before .before .before .before .before .before .before .before .before .before .before .before .before .loop .inv .2, alternate-kept (c .before .before .before .before .before .before .before .before .before .before .before .before .before .loop .inv .3) ([], []) (rw length-sides (search needs)) (edge-at (inPairs (c .before .before .before .before .before .before .before .before .before .before .before .before .before .before .before .before .before .args .clip .now)) (c .before .before .before .before .before .before .before .before .before .before .before .before .before .loop .inv .0) (search needs) (c .before .before .before .before .before .before .before .before .before .before .before .pair .ensures) (c .before .before .before .before .before .before .before .before .before .before .next .ensures .0) (c .before .before .before .before .before .before .before .before .before .pair2 .ensures)) (rw (c .enum-told .given .1) at (c .before .before .before .before .before .before .advance-from .ensures))))
     (λ c. search needs)
-    (λ c. c .before .before .before .before .before .before .advance-from .kept .0 ∙ c .before .before .before .before .before .before .before .before .before .before .before .before .before .loop .inv .1)
-    (λ c. c .before .before .before .before .before .before .advance-from .kept .1 .0 ∙ c .before .before .before .before .before .before .before .before .before .before .before .before .before .loop .inv .2)
-    (λ c. alternate-gone (c .before .before .before .before .before .before .before .before .before .before .before .before .before .loop .inv .3) ([], []) (rw length-sides (search needs)) (edge-at (inPairs (c .before .before .before .before .before .before .before .before .before .before .before .before .before .before .before .before .before .args .clip .now)) (c .before .before .before .before .before .before .before .before .before .before .before .before .before .loop .inv .0) (search needs) (c .before .before .before .before .before .before .before .before .before .before .before .pair .ensures) (c .before .before .before .before .before .before .before .before .before .before .next .ensures .0) (c .before .before .before .before .before .before .before .before .before .pair2 .ensures)) (rw (c .enum-told2 .given .1) at (c .before .before .before .before .before .before .advance-from .ensures)))
-    (λ c. search needs)
-    (λ c. c .before .before .before .before .before .before .advance-from .kept .0 ∙ c .before .before .before .before .before .before .before .before .before .before .before .before .before .loop .inv .1)
-    (λ c. c .before .before .before .before .before .before .advance-from .kept .1 .0 ∙ c .before .before .before .before .before .before .before .before .before .before .before .before .before .loop .inv .2)
-    (λ c. alternate-full (c .before .before .before .before .before .before .before .before .before .before .before .before .before .loop .inv .3) ([], []) (rw length-sides (search needs)) (edge-at (inPairs (c .before .before .before .before .before .before .before .before .before .before .before .before .before .before .before .before .before .args .clip .now)) (c .before .before .before .before .before .before .before .before .before .before .before .before .before .loop .inv .0) (search needs) (c .before .before .before .before .before .before .before .before .before .before .before .pair .ensures) (c .before .before .before .before .before .before .before .before .before .before .next .ensures .0) (c .before .before .before .before .before .before .before .before .before .pair2 .ensures)) (rw (c .enum-told3 .given .1) at (c .before .before .before .before .before .before .advance-from .ensures)))
+    nothing-left
     (λ c. search needs)
     (λ c. search needs)
-    (λ c. (c .before .before .before .before .before .before .before .before .before .before .before .before .before .before .loop .inv .0, c .before .before .before .before .before .before .before .advance-from .kept .0 ∙ c .before .before .before .before .before .before .before .before .before .before .before .before .before .before .loop .inv .1, c .before .before .before .before .before .before .before .advance-from .kept .1 .0 ∙ c .before .before .before .before .before .before .before .before .before .before .before .before .before .before .loop .inv .2, alternate-made (c .before .before .before .before .before .before .before .before .before .before .before .before .before .before .loop .inv .3) ([], []) (rw length-sides (search needs)) (edge-at (inPairs (c .before .before .before .before .before .before .before .before .before .before .before .before .before .before .before .before .before .before .args .clip .now)) (c .before .before .before .before .before .before .before .before .before .before .before .before .before .before .loop .inv .0) (search needs) (c .before .before .before .before .before .before .before .before .before .before .before .before .pair .ensures) (c .before .before .before .before .before .before .before .before .before .before .before .next .ensures .0) (c .before .before .before .before .before .before .before .before .before .before .pair2 .ensures)) (rw (c .before .left .given .1) at (c .before .before .before .before .before .before .before .advance-from .ensures))))
-    (λ c. c .before .before .loop .inv .1)
-    (λ c. c .before .before .loop .inv .2)
-    (λ c. alternate-none (c .before .before .loop .inv .3) (rw length-sides (search needs)) (c .if1 .taken))
-    (λ c. c .before .before .loop .inv .1)
-    (λ c. c .before .before .loop .inv .2)
-    (λ c. alternate-end (c .before .before .loop .inv .3) (rw length-sides (search needs)) (c .if1 .left)))
+    (λ c. search needs)
+    no-room
+    (λ c. search needs) (λ c. search needs)
+    goes-on
+    (λ c. search needs)
+    (λ c. search needs)
+    no-points
+    (λ c. search needs)
+    (λ c. search needs)
+    outline-left)

@@ -1,10 +1,14 @@
+-- `planes::unit_plane` meets its contract: the norm is the two lengths of the definition, one in the other, and the rest is its expression.
 use Rattle.planes.specs.Planes.{unitPlane}
 use borrow.Author.Needs.{needs}
 use Rattle.planes.proofs.unit_plane.Statement.{statement}
 use Rattle.planes.proofs.unit_plane.Tie as tie
 
-pub unit-plane-spec : {M : Type 1} → statement M
+returns : tie.Need-returns
 unfolding unitPlane
+returns c = rw (← c .before .length .ensures, ← c .length2 .ensures)
+
+pub unit-plane-spec : {M : Type 1} → statement M
 unit-plane-spec =
     tie.close
     (tie.spec
@@ -16,4 +20,4 @@ unit-plane-spec =
     (λ c. search needs)
     (λ c. search needs)
     (λ c. search needs)
-    (λ c. rw (← c .before .length .ensures, ← c .length2 .ensures)))
+    returns)

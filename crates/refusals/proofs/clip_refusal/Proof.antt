@@ -1,23 +1,20 @@
 -- `refusals::clip_refusal` meets its contract: the planes' size, the work lists and the face are asked in the definition's order, and the
 -- first that refuses decides.
-use mathlib.Core.Path.{_≡_, sym, _∙_, refl}
-use native.Mathlib.Omega.{arith}
-use Rattle.cell.proofs.Refusals.{row-applies, row-passed, no-row}
 use Rattle.refusals.specs.Refusals.{clipRefusal}
-use Rattle.refusals.proofs.Refusals.{or-found, or-other}
+use Rattle.refusals.proofs.Refusals.{or-found, or-other, size-yes, size-no}
 use borrow.Author.Needs.{needs}
 use Rattle.refusals.proofs.clip_refusal.Statement.{statement}
 use Rattle.refusals.proofs.clip_refusal.Tie as tie
 
 too-many-planes : tie.Need-returns
 unfolding clipRefusal
-too-many-planes c = or-found _ (row-applies 1 _ (sym (c .before .planes-refused .ensures) ∙ c .if1 .taken)) (λ z. absurd (omega arith))
+too-many-planes c = size-yes _ (c .before .planes-refused .ensures) (c .if1 .taken)
 
 work-lists : tie.Need-returns-2
 unfolding clipRefusal
 work-lists c =
     let planes : tie.Else1 = search in
-    or-other _ (row-passed 1 _ (sym (planes .before .planes-refused .ensures) ∙ planes .if1 .left) no-row) refl
+    size-no _ (planes .before .planes-refused .ensures) (planes .if1 .left)
     (or-found _ (c .before .works-refusal .ensures) (c .if2 .taken))
 
 the-face : tie.Need-returns-3
@@ -25,7 +22,7 @@ unfolding clipRefusal
 the-face c =
     let planes : tie.Else1 = search in
     let lists : tie.Else2 = search in
-    or-other _ (row-passed 1 _ (sym (planes .before .planes-refused .ensures) ∙ planes .if1 .left) no-row) refl
+    size-no _ (planes .before .planes-refused .ensures) (planes .if1 .left)
     (or-other _ (lists .before .works-refusal .ensures) (lists .if2 .left) (c .face-refusal .ensures))
 
 pub clip-refusal-spec : {M : Type 1} → statement M

@@ -1,16 +1,28 @@
-use Rattle.cell.proofs.Refusals.{row-applies, row-passed, no-row}
+-- `refusals::list_refusal` meets its contract: its two tests are the two rows of the definition, in that order, and the first that holds
+-- decides.
+use Rattle.cell.proofs.Refusals.{no-row}
 use Rattle.refusals.specs.Refusals.{listRefusal}
+use Rattle.refusals.proofs.Refusals.{row-yes, row-no}
 use borrow.Author.Needs.{needs}
 use Rattle.refusals.proofs.list_refusal.Statement.{statement}
 use Rattle.refusals.proofs.list_refusal.Tie as tie
 
-pub list-refusal-spec : {M : Type 1} → statement M
+bad-size : tie.Need-returns
 unfolding listRefusal
-list-refusal-spec =
-    tie.close
-    (tie.spec
-    (λ c κs. search needs)
-    (λ c. row-applies 1 _ (rw (← c .before .points-refused .ensures, c .if1 .taken)))
-    (λ c κs. search needs)
-    (λ c. row-passed 1 _ (rw (← c .before .before .before .points-refused .ensures, c .before .before .if1 .left)) (row-applies 2 _ (rw (← c .before .number-refused .ensures, c .if2 .taken))))
-    (λ c. row-passed 1 _ (rw (← c .before .before .before .points-refused .ensures, c .before .before .if1 .left)) (row-passed 2 _ (rw (← c .before .number-refused .ensures, c .if2 .left)) no-row)))
+bad-size c = row-yes 1 _ (c .before .points-refused .ensures) (c .if1 .taken)
+
+bad-number : tie.Need-returns-2
+unfolding listRefusal
+bad-number c =
+    let size : tie.Else1 = search in
+    row-no 1 _ (size .before .points-refused .ensures) (size .if1 .left) (row-yes 2 _ (c .before .number-refused .ensures) (c .if2 .taken))
+
+not-refused : tie.Need-returns-3
+unfolding listRefusal
+not-refused c =
+    let size : tie.Else1 = search in
+    row-no 1 _ (size .before .points-refused .ensures) (size .if1 .left)
+    (row-no 2 _ (c .before .number-refused .ensures) (c .if2 .left) no-row)
+
+pub list-refusal-spec : {M : Type 1} → statement M
+list-refusal-spec = tie.close (tie.spec (λ c κs. search needs) bad-size (λ c κs. search needs) bad-number not-refused)

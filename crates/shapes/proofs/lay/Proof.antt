@@ -1,3 +1,5 @@
+-- `shapes::lay` meets its contract: each pass puts one point in its place, so that with the points from i on the list has them all
+-- (`Laying`), and at the end it does.
 use mathlib.Core.Path.{_≡_, refl}
 use Prim.Native.Nat.{_-_}
 use native.Mathlib.Omega.{arith}
@@ -8,18 +10,43 @@ use borrow.Author.Needs.{needs}
 use Rattle.shapes.proofs.lay.Statement.{statement}
 use Rattle.shapes.proofs.lay.Tie as tie
 
+abbrev Inv-loop : tie.InvT-loop
+Inv-loop coords₀ ps n i₀ coords i = (n ≡ length ps) × Laying ps i coords
+
+abbrev μ-loop : tie.MeasureT-loop
+μ-loop coords₀ ps n i₀ coords i = n - i
+
+loop-holds : tie.Need-loop-holds Inv-loop μ-loop
+loop-holds c =
+    let start : tie.Start Inv-loop μ-loop = search in
+    (refl, lay-start (start .pre))
+
+put-vertex-requires : tie.Need-put-vertex-requires Inv-loop μ-loop
+put-vertex-requires c κs =
+    let at : tie.At-loop Inv-loop μ-loop = search in
+    omega (arith, length-threes (at .loop .coords))
+
+loop-again : tie.Need-loop-again Inv-loop μ-loop
+loop-again c =
+    let at : tie.At-loop Inv-loop μ-loop = search in
+    let laid : tie.After-put-vertex Inv-loop μ-loop = search in
+    (refl, lay-next (at .loop .inv .1) (search needs) (laid .put-vertex .kept .0) (laid .put-vertex .ensures .0))
+
+returns : tie.Need-returns Inv-loop μ-loop
+returns c = lay-end (c .before .loop .inv .1) (search needs)
+
 pub lay-spec : {M : Type 1} → statement M
 lay-spec =
     tie.close
     (tie.spec
-    (λ coords₀ ps n i₀ coords i. (n ≡ length ps) × Laying ps i coords)
-    (λ coords₀ ps n i₀ coords i. n - i)
-    (λ c. (refl, lay-start (c .before .pre)))
+    Inv-loop
+    μ-loop
+    loop-holds
     (λ c. search needs)
     (λ c. search needs)
-    (λ c κs. omega (arith, length-threes (c .before .before .before .loop .coords)))
+    put-vertex-requires
     (λ c. search needs)
     (λ c. search needs)
-    (λ c. (refl, lay-next (c .before .before .before .before .before .before .loop .inv .1) (search needs) (c .before .before .put-vertex .kept .0) (c .before .before .put-vertex .ensures .0)))
+    loop-again
     (λ c. search needs)
-    (λ c. lay-end (c .before .loop .inv .1) (search needs)))
+    returns)

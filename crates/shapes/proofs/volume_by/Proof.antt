@@ -1,3 +1,5 @@
+-- `shapes::volume_by` meets its contract: each pass adds the volume of one row, so the rows that are left make, with the sum so far, the
+-- whole sum (`Taking`).
 use mathlib.Core.Path.{_≡_, refl}
 use mathlib.Core.List.{[]}
 use Prim.Native.Nat.{_-_}
@@ -8,18 +10,40 @@ use borrow.Author.Needs.{needs}
 use Rattle.shapes.proofs.volume_by.Statement.{statement}
 use Rattle.shapes.proofs.volume_by.Tie as tie
 
-pub volume-by-spec : {M : Type 1} → statement M
+abbrev Inv-loop : tie.InvT-loop
+Inv-loop ps table n v₀ i₀ v i = (n ≡ length table) × Taking (addTet ps) table (volumeBy table ps) i v
+
+abbrev μ-loop : tie.MeasureT-loop
+μ-loop ps table n v₀ i₀ v i = n - i
+
+loop-holds : tie.Need-loop-holds Inv-loop μ-loop
 unfolding volumeBy
+loop-holds c = (refl, take-start refl)
+
+tet-by-requires : tie.Need-tet-by-requires Inv-loop μ-loop
+tet-by-requires c κs =
+    let start : tie.Start Inv-loop μ-loop = search in
+    start .pre .holds _ (search needs)
+
+loop-again : tie.Need-loop-again Inv-loop μ-loop
+loop-again c =
+    let at : tie.At-loop Inv-loop μ-loop = search in
+    (at .loop .inv .0, take-next [] (at .loop .inv .1) (search needs) (cc))
+
+returns : tie.Need-returns Inv-loop μ-loop
+returns c = take-end (c .before .loop .inv .1) (search needs)
+
+pub volume-by-spec : {M : Type 1} → statement M
 volume-by-spec =
     tie.close
     (tie.spec
-    (λ ps table n v₀ i₀ v i. (n ≡ length table) × Taking (addTet ps) table (volumeBy table ps) i v)
-    (λ ps table n v₀ i₀ v i. n - i)
-    (λ c. (refl, take-start refl))
+    Inv-loop
+    μ-loop
+    loop-holds
     (λ c. search needs)
     (λ c. search needs)
-    (λ c κs. c .before .before .before .pre .holds _ (search needs))
+    tet-by-requires
     (λ c. search needs)
     (λ c. search needs)
-    (λ c. (c .before .before .before .loop .inv .0, take-next [] (c .before .before .before .loop .inv .1) (search needs) (cc)))
-    (λ c. take-end (c .before .loop .inv .1) (search needs)))
+    loop-again
+    returns)

@@ -1,3 +1,5 @@
+-- `shapes::wedge_contains` meets its contract: either table makes a sound cell with any 18 coordinates, each count is the ray test's of its
+-- table, and `!=` of the two answers is `differ`.
 use mathlib.Core.Path.{refl}
 use Rattle.cell.specs.Faces.{facesOf}
 use Rattle.shapes.specs.Shapes.{wedgeContainsOf}
@@ -7,8 +9,26 @@ use borrow.Author.Needs.{needs}
 use Rattle.shapes.proofs.wedge_contains.Statement.{statement}
 use Rattle.shapes.proofs.wedge_contains.Tie as tie
 
+contains-requires : tie.Need-contains-requires
+unfolding tested
+contains-requires c κs =
+    let laid : tie.After-lay = search in
+    shape-sound 18 _ _ _ (laid .lay .kept .0) refl
+
+contains-requires-2 : tie.Need-contains-requires-2
+unfolding tested
+contains-requires-2 c κs =
+    let laid : tie.After-lay = search in
+    shape-sound 18 _ _ _ (laid .lay .kept .0) refl
+
+returns : tie.Need-returns
+unfolding wedgeContainsOf facesOf
+returns c =
+    let laid : tie.After-lay = search in
+    let quads : tie.After-contains = search in
+    rw (← laid .lay .ensures) (differs (quads .contains .ensures) (c .contains2 .ensures))
+
 pub wedge-contains-spec : {M : Type 1} → statement M
-unfolding wedgeContainsOf facesOf tested
 wedge-contains-spec =
     tie.close
     (tie.spec
@@ -18,9 +38,9 @@ wedge-contains-spec =
     (λ c. search needs)
     (λ c. search needs)
     (λ c. search needs)
-    (λ c κs. shape-sound 18 _ _ _ (c .before .before .before .before .lay .kept .0) refl)
+    contains-requires
     (λ c. search needs)
     (λ c. search needs)
     (λ c. search needs)
-    (λ c κs. shape-sound 18 _ _ _ (c .before .before .before .before .before .before .before .before .lay .kept .0) refl)
-    (λ c. rw (← c .before .before .before .before .before .before .before .before .before .lay .ensures) (differs (c .before .before .before .before .contains .ensures) (c .contains2 .ensures))))
+    contains-requires-2
+    returns)

@@ -1,3 +1,5 @@
+-- `side_table::count_faces` meets its contract: after j turns the first j faces are counted, and an entry has room for one more for each
+-- corner that is left.
 use mathlib.Core.Path.{_≡_, refl}
 use Prim.Native.Nat.{_-_, _*_}
 use lib.ListN.{length}
@@ -13,19 +15,75 @@ use borrow.Author.Needs.{needs}
 use Rattle.side_table.proofs.count_faces.Statement.{statement}
 use Rattle.side_table.proofs.count_faces.Tie as tie
 
-pub count-faces-spec : {M : Type 1} → statement M
+abbrev Inv-loop : tie.InvT-loop
+Inv-loop table₀ number k corners ends n start₀ j₀ table start j =
+    (n ≡ length ends) × (length table ≡ length table₀) × Room (k * k) (length corners - start) table ×
+    Facing (countFace (entryOf number k)) corners ends (countFaces (entryOf number k) (facesOf corners ends) table₀) start j
+    table
+
+abbrev μ-loop : tie.MeasureT-loop
+μ-loop table₀ number k corners ends n start₀ j₀ table start j = n - j
+
+loop-holds : tie.Need-loop-holds Inv-loop μ-loop
 unfolding countFaces
+loop-holds c =
+    let start : tie.Start Inv-loop μ-loop = search in
+    let pre = start .pre in
+    (refl, refl, room-less _ (pre .1) (omega arith), face-start (pre .0 .ordered) refl)
+
+face-requires : tie.Need-face-requires Inv-loop μ-loop
+unfolding countFaces
+face-requires c κs =
+    let record { before = _; loop = loop } : tie.At-loop Inv-loop μ-loop = search in
+    let s = face-step (loop .inv .3) (omega arith) (c .before .corner .ensures .0) in
+    (s .from, s .upto)
+
+count-face-requires : tie.Need-count-face-requires Inv-loop μ-loop
+unfolding countFaces
+count-face-requires c κs =
+    let record { before = _; corner = corner } : tie.After-corner Inv-loop μ-loop = search in
+    let record { before = _; loop = loop } : tie.At-loop Inv-loop μ-loop = search in
+    let start : tie.Start Inv-loop μ-loop = search in
+    let pre = start .pre in
+    let s = face-step (loop .inv .3) (omega arith) (corner .ensures .0) in (
+      (each-face (loop .start) (corner .result) _ (pre .0 .known) (c .face .ensures), few (pre .0 .numbering)),
+      room-for (start .args .corners .now) (loop .start) (corner .result) (loop .inv .2) (s .from) (s .upto) (c .face .ensures),
+    )
+
+loop-again : tie.Need-loop-again Inv-loop μ-loop
+unfolding countFaces
+loop-again c =
+    let record { before = _; corner = corner } : tie.After-corner Inv-loop μ-loop = search in
+    let record { before = _; loop = loop } : tie.At-loop Inv-loop μ-loop = search in
+    let start : tie.Start Inv-loop μ-loop = search in
+    let args = start .args in
+    let s = face-step (loop .inv .3) (omega arith) (corner .ensures .0) in (
+      loop .inv .0,
+      omega arith,
+      room-face (entryOf (args .number .now) (args .k)) (args .corners .now) (loop .start) (corner .result) (loop .inv .2)
+          (s .from) (s .upto) (cc),
+      face-next (loop .inv .3) (omega arith) (corner .ensures .0) (cc),
+    )
+
+same-length : tie.Need-same-length Inv-loop μ-loop
+unfolding countFaces
+same-length c = omega arith
+
+returns : tie.Need-returns Inv-loop μ-loop
+unfolding countFaces
+returns c = face-end (c .before .loop .inv .3) (omega arith)
+
+pub count-faces-spec : {M : Type 1} → statement M
 count-faces-spec =
     tie.close
     (tie.spec
-    (λ table₀ number k corners ends n start₀ j₀ table start j. (n ≡ length ends) × (length table ≡ length table₀) × Room (k * k) (length corners - start) table × Facing (countFace (entryOf number k)) corners ends (countFaces (entryOf number k) (facesOf corners ends) table₀) start j table)
-    (λ table₀ number k corners ends n start₀ j₀ table start j. n - j)
-    (λ c. (refl, refl, room-less _ (c .before .before .before .before .pre .1) (omega arith), face-start (c .before .before .before .before .pre .0 .ordered) refl))
+    Inv-loop
+    μ-loop
+    loop-holds
     (λ c κs. search needs)
-    (λ c κs. let s = face-step (c .before .before .before .loop .inv .3) (omega arith) (c .before .corner .ensures .0) in (s .from, s .upto))
-    (λ c κs. let s = face-step (c .before .before .before .before .loop .inv .3) (omega arith) (c .before .before .corner .ensures .0) in ((each-face (c .before .before .before .before .loop .start) (c .before .before .corner .result) _ (c .before .before .before .before .before .before .before .before .before .pre .0 .known) (c .face .ensures), few (c .before .before .before .before .before .before .before .before .before .pre .0 .numbering)), room-for (c .before .before .before .before .before .before .before .before .before .args .corners .now) (c .before .before .before .before .loop .start) (c .before .before .corner .result) (c .before .before .before .before .loop .inv .2) (s .from) (s .upto) (c .face .ensures)))
-    (λ c. search needs)
-    (λ c. search needs)
-    (λ c. let s = face-step (c .before .before .before .before .before .before .before .loop .inv .3) (omega arith) (c .before .before .before .before .before .corner .ensures .0) in (c .before .before .before .before .before .before .before .loop .inv .0, omega arith, room-face (entryOf (c .before .before .before .before .before .before .before .before .before .before .before .before .args .number .now) (c .before .before .before .before .before .before .before .before .before .before .before .before .args .k)) (c .before .before .before .before .before .before .before .before .before .before .before .before .args .corners .now) (c .before .before .before .before .before .before .before .loop .start) (c .before .before .before .before .before .corner .result) (c .before .before .before .before .before .before .before .loop .inv .2) (s .from) (s .upto) (cc), face-next (c .before .before .before .before .before .before .before .loop .inv .3) (omega arith) (c .before .before .before .before .before .corner .ensures .0) (cc)))
-    (λ c. omega arith)
-    (λ c. face-end (c .before .loop .inv .3) (omega arith)))
+    face-requires
+    count-face-requires
+    (λ c. search needs) (λ c. search needs)
+    loop-again
+    same-length
+    returns)

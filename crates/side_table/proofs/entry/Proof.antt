@@ -1,3 +1,4 @@
+-- `side_table::entry` meets its contract: both numbers are below k, so row and column give an entry below k times k.
 use mathlib.Core.Path.{refl}
 use native.Mathlib.Omega.{arith}
 use Rattle.side_table.specs.Numbers.{entryOf}
@@ -6,17 +7,32 @@ use borrow.Author.Needs.{needs}
 use Rattle.side_table.proofs.entry.Statement.{statement}
 use Rattle.side_table.proofs.entry.Tie as tie
 
-pub entry-spec : {M : Type 1} → statement M
+mul-result-2 : tie.Need-mul-result-2
 unfolding entryOf
+mul-result-2 c =
+    let pre = c .before .pre in
+    omega (arith, entry-fits (pre .0) (pre .1) (pre .2))
+
+add-result : tie.Need-add-result
+unfolding entryOf
+add-result c =
+    let start : tie.Start = search in
+    let pre = start .pre in
+    omega (arith, entry-fits (pre .0) (pre .1) (pre .2))
+
+returns : tie.Need-returns
+unfolding entryOf
+returns c =
+    let start : tie.Start = search in
+    let pre = start .pre in
+    (refl, entry-below (pre .0) (pre .1))
+
+pub entry-spec : {M : Type 1} → statement M
 entry-spec =
     tie.close
     (tie.spec
-    (λ c. search needs)
-    (λ c. search needs)
-    (λ c. search needs)
-    (λ c. omega (arith, entry-fits (c .before .pre .0) (c .before .pre .1) (c .before .pre .2)))
-    (λ c. search needs)
-    (λ c. search needs)
-    (λ c. search needs)
-    (λ c. omega (arith, entry-fits (c .before .before .pre .0) (c .before .before .pre .1) (c .before .before .pre .2)))
-    (λ c. (refl, entry-below (c .before .before .pre .0) (c .before .before .pre .1))))
+    (λ c. search needs) (λ c. search needs) (λ c. search needs)
+    mul-result-2
+    (λ c. search needs) (λ c. search needs) (λ c. search needs)
+    add-result
+    returns)

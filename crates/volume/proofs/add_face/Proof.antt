@@ -1,31 +1,78 @@
+-- `volume::add_face` meets its contract: the cut lays the face's triangles at the front of `out`, so the sum over that front and their
+-- count are what the definition has.
+use mathlib.Core.Path.{_≡_, sym}
 use native.Mathlib.Omega.{arith}
-use mathlib.Core.Path.{sym, _≡_}
 use lib.Seq.{length-take-le}
 use Rattle.places.specs.Loops.{foldList}
 use Rattle.flat.specs.Points.{verticesOf}
 use Rattle.cut.specs.Cut.{cutOf}
-use Rattle.cut.proofs.Facts.{cut-room, cut-inside}
 use Rattle.volume.specs.Triangles.{isShort}
 use Rattle.volume.specs.Volume.{addTriple}
 use Rattle.volume.specs.Steps.{addFace}
-use Rattle.volume.proofs.Passes.{front}
+use Rattle.volume.proofs.Passes.{Front, cut-front}
 use borrow.Author.Needs.{needs}
 use Rattle.volume.proofs.add_face.Statement.{statement}
 use Rattle.volume.proofs.add_face.Tie as tie
 
-pub add-face-spec : {M : Type 1} → statement M
+-- what stands in the list that was lent, after the cut
+laid : (c : tie.After-cut) → let s : tie.Start = search in
+    Front (verticesOf (s .args .coords .now)) (s .args .face .now) (c .cut .result .triangles) (c .cut .last .1 .1 .0)
+laid c =
+    let start : tie.Start = search in
+    let args = start .args in
+    let pre = start .pre in
+    cut-front (verticesOf (args .coords .now)) (args .face .now) (pre .0) (pre .1 .0 .1) (c .cut .kept .1 .1 .0) (c .cut .ensures)
+
+front-within : tie.Need-slice-reshare-prefix-add-triangles
+front-within c = laid (c .before) .within
+
+front-long : tie.Need-slice-aggregate-add-triangles
+front-long c =
+    let done : tie.After-cut = search in
+    sym (length-take-le _ _ (laid done .within))
+
+add-triangles-requires : tie.Need-add-triangles-requires
+add-triangles-requires c κs = let done : tie.After-cut = search in laid done .inside
+
+short-share-requires : tie.Need-short-share-requires
+short-share-requires c κs =
+    let done : tie.After-cut = search in
+    omega (arith, laid done .few)
+
+triangles-fit : tie.Need-add-t14
+triangles-fit c =
+    let done : tie.After-cut = search in
+    omega (arith, laid done .few)
+
+short-fits : tie.Need-add-t15
+short-fits c =
+    let start : tie.Start = search in
+    let shared : tie.After-short-share = search in
+    omega (arith, shared .short-share .ensures, start .pre .1)
+
+returns : tie.Need-returns
 unfolding addFace isShort
+returns c =
+    let start : tie.Start = search in
+    let args = start .args in
+    let vs = verticesOf (args .coords .now) in
+    let done : tie.After-cut = search in
+    let summed : tie.After-add-triangles = search in
+    let shared : tie.After-short-share = search in
+    let v6 : summed .add-triangles .result ≡ foldList (addTriple vs (args .refp)) (cutOf vs (args .face .now) .triangles) (args .m .v6) =
+    cc (laid done .shown) in
+    rw (← v6, ← done .cut .ensures .count, ← shared .short-share .ensures .0)
+
+pub add-face-spec : {M : Type 1} → statement M
 add-face-spec =
     tie.close
     (tie.spec
     (λ c κs. search needs)
-    (λ c. omega (arith, cut-room (verticesOf (c .before .before .before .before .before .args .coords .now)) (c .before .before .before .before .before .args .face .now), c .before .cut .kept .1 .1 .0, c .before .cut .ensures .count, c .before .before .before .before .before .pre .1))
-    (λ c. sym (length-take-le _ _ (omega (arith, cut-room (verticesOf (c .before .before .before .before .before .before .args .coords .now)) (c .before .before .before .before .before .before .args .face .now), c .before .before .cut .kept .1 .1 .0, c .before .before .cut .ensures .count, c .before .before .before .before .before .before .pre .1))))
-    (λ c κs. rw (front (cutOf (verticesOf (c .before .before .before .before .before .before .args .coords .now)) (c .before .before .before .before .before .before .args .face .now) .triangles) (c .before .before .before .before .before .before .args .out .now) (c .before .before .cut .ensures .count) (c .before .before .cut .ensures .written)) (cut-inside (verticesOf (c .before .before .before .before .before .before .args .coords .now)) (c .before .before .before .before .before .before .args .face .now) (c .before .before .before .before .before .before .pre .0)))
-    (λ c κs. omega (arith, cut-room (verticesOf (c .before .before .before .before .before .before .before .args .coords .now)) (c .before .before .before .before .before .before .before .args .face .now), c .before .before .before .cut .ensures .count, c .before .before .before .before .before .before .before .pre .1))
-    (λ c. omega (arith, cut-room (verticesOf (c .before .before .before .before .before .before .before .before .before .args .coords .now)) (c .before .before .before .before .before .before .before .before .before .args .face .now), c .before .before .before .before .before .cut .ensures .count, c .before .before .before .before .before .before .before .before .before .pre .1))
-    (λ c. omega (arith, c .before .before .short-share .ensures, c .before .before .before .before .before .before .before .before .before .before .pre .1))
+    front-within
+    front-long
+    add-triangles-requires
+    short-share-requires
+    triangles-fit
+    short-fits
     (λ c. search needs)
-    (λ c. let ts = cutOf (verticesOf (c .before .before .before .before .before .before .before .before .before .before .args .coords .now)) (c .before .before .before .before .before .before .before .before .before .before .args .face .now) .triangles in
-    let v : c .before .before .before .add-triangles .result ≡ foldList (addTriple (verticesOf (c .before .before .before .before .before .before .before .before .before .before .args .coords .now)) (c .before .before .before .before .before .before .before .before .before .before .args .refp)) ts (c .before .before .before .before .before .before .before .before .before .before .args .m .v6) = cc (front ts (c .before .before .before .before .before .before .before .before .before .before .args .out .now) (c .before .before .before .before .before .before .cut .ensures .count) (c .before .before .before .before .before .before .cut .ensures .written)) in
-    rw (← v, ← c .before .before .before .before .before .before .cut .ensures .count, ← c .before .before .short-share .ensures .0)))
+    returns)

@@ -1,3 +1,5 @@
+-- `volume::add_moments` meets its contract: each pass takes in one triangle, so the triangles that are left make, with the sums so far, the
+-- whole (`Taking`).
 use mathlib.Core.Path.{_≡_, refl}
 use mathlib.Core.List.{[]}
 use Prim.Native.Nat.{_-_}
@@ -10,17 +12,41 @@ use borrow.Author.Needs.{needs}
 use Rattle.volume.proofs.add_moments.Statement.{statement}
 use Rattle.volume.proofs.add_moments.Tie as tie
 
+abbrev Inv-loop : tie.InvT-loop
+Inv-loop coords tris refp n s₀ i₀ s i =
+    let add = addMoment (verticesOf coords) refp in
+    (n ≡ length tris) × Taking add tris (foldList add tris s₀) i s
+
+abbrev μ-loop : tie.MeasureT-loop
+μ-loop coords tris refp n s₀ i₀ s i = n - i
+
+loop-holds : tie.Need-loop-holds Inv-loop μ-loop
+loop-holds c = (refl, take-start refl)
+
+add-moment-requires : tie.Need-add-moment-requires Inv-loop μ-loop
+add-moment-requires c κs =
+    let start : tie.Start Inv-loop μ-loop = search in
+    start .pre .holds _ (search needs)
+
+loop-again : tie.Need-loop-again Inv-loop μ-loop
+loop-again c =
+    let at : tie.At-loop Inv-loop μ-loop = search in
+    (at .loop .inv .0, take-next [] (at .loop .inv .1) (search needs) (cc))
+
+returns : tie.Need-returns Inv-loop μ-loop
+returns c = take-end (c .before .loop .inv .1) (search needs)
+
 pub add-moments-spec : {M : Type 1} → statement M
 add-moments-spec =
     tie.close
     (tie.spec
-    (λ coords tris refp n s₀ i₀ s i. (n ≡ length tris) × Taking (addMoment (verticesOf coords) refp) tris (foldList (addMoment (verticesOf coords) refp) tris s₀) i s)
-    (λ coords tris refp n s₀ i₀ s i. n - i)
-    (λ c. (refl, take-start refl))
+    Inv-loop
+    μ-loop
+    loop-holds
     (λ c. search needs)
     (λ c. search needs)
-    (λ c κs. c .before .before .before .before .pre .holds _ (search needs))
+    add-moment-requires
     (λ c. search needs)
     (λ c. search needs)
-    (λ c. (c .before .before .before .loop .inv .0, take-next [] (c .before .before .before .loop .inv .1) (search needs) (cc)))
-    (λ c. take-end (c .before .loop .inv .1) (search needs)))
+    loop-again
+    returns)

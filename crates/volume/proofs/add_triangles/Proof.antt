@@ -1,3 +1,5 @@
+-- `volume::add_triangles` meets its contract: each pass adds one triple product, so the triangles that are left make, with the sum so far,
+-- the whole (`Taking`).
 use mathlib.Core.Path.{_≡_, refl}
 use mathlib.Core.List.{[]}
 use Prim.Native.Nat.{_-_}
@@ -10,17 +12,41 @@ use borrow.Author.Needs.{needs}
 use Rattle.volume.proofs.add_triangles.Statement.{statement}
 use Rattle.volume.proofs.add_triangles.Tie as tie
 
+abbrev Inv-loop : tie.InvT-loop
+Inv-loop coords tris refp v n s₀ i₀ s i =
+    let add = addTriple (verticesOf coords) refp in
+    (n ≡ length tris) × Taking add tris (foldList add tris v) i s
+
+abbrev μ-loop : tie.MeasureT-loop
+μ-loop coords tris refp v n s₀ i₀ s i = n - i
+
+loop-holds : tie.Need-loop-holds Inv-loop μ-loop
+loop-holds c = (refl, take-start refl)
+
+triple-requires : tie.Need-triple-requires Inv-loop μ-loop
+triple-requires c κs =
+    let start : tie.Start Inv-loop μ-loop = search in
+    start .pre .holds _ (search needs)
+
+loop-again : tie.Need-loop-again Inv-loop μ-loop
+loop-again c =
+    let at : tie.At-loop Inv-loop μ-loop = search in
+    (at .loop .inv .0, take-next [] (at .loop .inv .1) (search needs) (cc))
+
+returns : tie.Need-returns Inv-loop μ-loop
+returns c = take-end (c .before .loop .inv .1) (search needs)
+
 pub add-triangles-spec : {M : Type 1} → statement M
 add-triangles-spec =
     tie.close
     (tie.spec
-    (λ coords tris refp v n s₀ i₀ s i. (n ≡ length tris) × Taking (addTriple (verticesOf coords) refp) tris (foldList (addTriple (verticesOf coords) refp) tris v) i s)
-    (λ coords tris refp v n s₀ i₀ s i. n - i)
-    (λ c. (refl, take-start refl))
+    Inv-loop
+    μ-loop
+    loop-holds
     (λ c. search needs)
     (λ c. search needs)
-    (λ c κs. c .before .before .before .before .pre .holds _ (search needs))
+    triple-requires
     (λ c. search needs)
     (λ c. search needs)
-    (λ c. (c .before .before .before .loop .inv .0, take-next [] (c .before .before .before .loop .inv .1) (search needs) (cc)))
-    (λ c. take-end (c .before .loop .inv .1) (search needs)))
+    loop-again
+    returns)

@@ -1,3 +1,5 @@
+-- `volume::measure_in` meets its contract: each pass adds one face (`Facing`), which comes to all triangles (`measured-all`), and the
+-- counts stay at most the corners and faces that were passed.
 use mathlib.Core.Path.{_≡_, refl}
 use Prim.Native.Nat.{_-_, _≤_}
 use native.Mathlib.Omega.{arith}
@@ -14,30 +16,89 @@ use borrow.Author.Needs.{needs}
 use Rattle.volume.proofs.measure_in.Statement.{statement}
 use Rattle.volume.proofs.measure_in.Tie as tie
 
+abbrev Inv-loop : tie.InvT-loop
+Inv-loop coords corners ends out₀ refp n m₀ start₀ k₀ out m start k =
+    let vs = verticesOf coords in
+    (n ≡ length ends) × (length out ≡ length out₀) × (m .triangles ≤ start) × (m .short ≤ k) ×
+    Facing (addFace vs refp) corners ends (measuredOf vs (facesOf corners ends)) start k m
+
+abbrev μ-loop : tie.MeasureT-loop
+μ-loop coords corners ends out₀ refp n m₀ start₀ k₀ out m start k = n - k
+
+vertex-centroid-requires : tie.Need-vertex-centroid-requires Inv-loop μ-loop
+vertex-centroid-requires c κs =
+    let start : tie.Start Inv-loop μ-loop = search in
+    omega (arith, length-threes (start .args .coords .now), start .pre .0 .threes, start .pre .0 .few)
+
+loop-holds : tie.Need-loop-holds Inv-loop μ-loop
+loop-holds c =
+    let start : tie.Start Inv-loop μ-loop = search in
+    let args = start .args in
+    let all = measured-all (verticesOf (args .coords .now)) (facesOf (args .corners .now) (args .ends .now)) in
+    (refl, refl, omega arith, omega arith, face-start (start .pre .0 .ordered) (rw (c .vertex-centroid .ensures) all))
+
+face-requires : tie.Need-face-requires Inv-loop μ-loop
+face-requires c κs =
+    let at : tie.At-loop Inv-loop μ-loop = search in
+    let step = face-step (at .loop .inv .4) (search needs) (c .corner .ensures .0) in
+    (step .from, step .upto)
+
+add-face-requires : tie.Need-add-face-requires Inv-loop μ-loop
+add-face-requires c κs =
+    let start : tie.Start Inv-loop μ-loop = search in
+    let pre = start .pre in
+    let corners = start .args .corners .now in
+    let at : tie.At-loop Inv-loop μ-loop = search in
+    let loop = at .loop in
+    let end : tie.After-corner Inv-loop μ-loop = search in
+    let step = face-step (loop .inv .4) (search needs) (end .corner .ensures .0) in
+    let long = length-slice (loop .start) (end .corner .result) corners (step .upto) in
+    rw (c .before .face .ensures) (
+      each-slice (loop .start) (end .corner .result) corners (pre .0 .inside),
+      ((omega arith, omega arith), (omega arith, omega arith)),
+    )
+
+loop-again : tie.Need-loop-again Inv-loop μ-loop
+loop-again c =
+    let start : tie.Start Inv-loop μ-loop = search in
+    let args = start .args in
+    let vs = verticesOf (args .coords .now) in
+    let corners = args .corners .now in
+    let about : tie.After-vertex-centroid Inv-loop μ-loop = search in
+    let refp = about .vertex-centroid .result in
+    let at : tie.At-loop Inv-loop μ-loop = search in
+    let loop = at .loop in
+    let end : tie.After-corner Inv-loop μ-loop = search in
+    let step = face-step (loop .inv .4) (search needs) (end .corner .ensures .0) in
+    let long = length-slice (loop .start) (end .corner .result) corners (step .upto) in
+    let face = slice (loop .start) (end .corner .result) corners in
+    let with-face : tie.After-add-face Inv-loop μ-loop = search in
+    let more = with-face .add-face in
+    let same : more .result ≡ addFace vs refp face (loop .m) = cc in
+    let counts = added vs refp face (loop .m) (more .result) same in (
+      loop .inv .0,
+      omega (arith, more .kept),
+      omega arith,
+      omega arith,
+      face-next (loop .inv .4) (search needs) (end .corner .ensures .0) same,
+    )
+
+returns : tie.Need-returns Inv-loop μ-loop
+returns c = face-end (c .before .loop .inv .4) (search needs)
+
 pub measure-in-spec : {M : Type 1} → statement M
 measure-in-spec =
     tie.close
     (tie.spec
-    (λ coords corners ends out₀ refp n m₀ start₀ k₀ out m start k. (n ≡ length ends) × (length out ≡ length out₀) × (m .triangles ≤ start) × (m .short ≤ k) × Facing (addFace (verticesOf coords) refp) corners ends (measuredOf (verticesOf coords) (facesOf corners ends)) start k m)
-    (λ coords corners ends out₀ refp n m₀ start₀ k₀ out m start k. n - k)
-    (λ c κs. omega (arith, length-threes (c .before .before .before .args .coords .now), c .before .before .before .pre .0 .threes, c .before .before .before .pre .0 .few))
-    (λ c. (refl, refl, omega arith, omega arith, face-start (c .before .before .before .before .pre .0 .ordered) (rw (c .vertex-centroid .ensures) (measured-all (verticesOf (c .before .before .before .before .args .coords .now)) (facesOf (c .before .before .before .before .args .corners .now) (c .before .before .before .before .args .ends .now))))))
+    Inv-loop
+    μ-loop
+    vertex-centroid-requires
+    loop-holds
     (λ c κs. search needs)
-    (λ c κs. let s = face-step (c .before .before .loop .inv .4) (search needs) (c .corner .ensures .0) in
-    (s .from, s .upto))
-    (λ c κs. let l = c .before .before .before .before .loop in
-    let s = face-step (l .inv .4) (search needs) (c .before .before .corner .ensures .0) in
-    let e = length-slice (l .start) (c .before .before .corner .result) (c .before .before .before .before .before .before .before .before .before .args .corners .now) (s .upto) in
-    let p = c .before .before .before .before .before .before .before .before .before .pre in
-    rw (c .before .face .ensures) (each-slice (l .start) (c .before .before .corner .result) (c .before .before .before .before .before .before .before .before .before .args .corners .now) (p .0 .inside), ((omega arith, omega arith), (omega arith, omega arith))))
+    face-requires
+    add-face-requires
     (λ c. search needs)
     (λ c. search needs)
-    (λ c. let l = c .before .before .before .before .before .before .loop in
-    let s = face-step (l .inv .4) (search needs) (c .before .before .before .before .corner .ensures .0) in
-    let e = length-slice (l .start) (c .before .before .before .before .corner .result) (c .before .before .before .before .before .before .before .before .before .before .before .args .corners .now) (s .upto) in
-    let f = slice (l .start) (c .before .before .before .before .corner .result) (c .before .before .before .before .before .before .before .before .before .before .before .args .corners .now) in
-    let g : c .before .add-face .result ≡ addFace (verticesOf (c .before .before .before .before .before .before .before .before .before .before .before .args .coords .now)) (c .before .before .before .before .before .before .before .vertex-centroid .result) f (l .m) = cc in
-    let a = added (verticesOf (c .before .before .before .before .before .before .before .before .before .before .before .args .coords .now)) (c .before .before .before .before .before .before .before .vertex-centroid .result) f (l .m) (c .before .add-face .result) g in
-    (l .inv .0, omega (arith, c .before .add-face .kept), omega arith, omega arith, face-next (l .inv .4) (search needs) (c .before .before .before .before .corner .ensures .0) g))
+    loop-again
     (λ c. search needs)
-    (λ c. face-end (c .before .loop .inv .4) (search needs)))
+    returns)

@@ -1,3 +1,5 @@
+-- `volume::moments_in` meets its contract: each pass adds the moments of one face (`Facing`), and the faces one after the other come to all
+-- triangles (`moments-all`).
 use mathlib.Core.Path.{_≡_, refl}
 use Prim.Native.Nat.{_-_}
 use native.Mathlib.Omega.{arith}
@@ -14,24 +16,65 @@ use borrow.Author.Needs.{needs}
 use Rattle.volume.proofs.moments_in.Statement.{statement}
 use Rattle.volume.proofs.moments_in.Tie as tie
 
+abbrev Inv-loop : tie.InvT-loop
+Inv-loop coords corners ends refp out₀ n m₀ start₀ i₀ out m start i =
+    let vs = verticesOf coords in
+    (n ≡ length ends) × (length out ≡ length out₀) ×
+    Facing (addFaceMoments vs refp) corners ends (momentsOf vs (facesOf corners ends)) start i m
+
+abbrev μ-loop : tie.MeasureT-loop
+μ-loop coords corners ends refp out₀ n m₀ start₀ i₀ out m start i = n - i
+
+loop-holds : tie.Need-loop-holds Inv-loop μ-loop
+loop-holds c =
+    let start : tie.Start Inv-loop μ-loop = search in
+    let args = start .args in
+    let all = moments-all (verticesOf (args .coords .now)) (facesOf (args .corners .now) (args .ends .now)) in
+    (refl, refl, face-start (start .pre .0 .ordered) (rw (start .pre .1 .1) all))
+
+face-requires : tie.Need-face-requires Inv-loop μ-loop
+face-requires c κs =
+    let at : tie.At-loop Inv-loop μ-loop = search in
+    let step = face-step (at .loop .inv .2) (search needs) (c .corner .ensures .0) in
+    (step .from, step .upto)
+
+add-face-moments-requires : tie.Need-add-face-moments-requires Inv-loop μ-loop
+add-face-moments-requires c κs =
+    let start : tie.Start Inv-loop μ-loop = search in
+    let pre = start .pre in
+    let corners = start .args .corners .now in
+    let at : tie.At-loop Inv-loop μ-loop = search in
+    let loop = at .loop in
+    let end : tie.After-corner Inv-loop μ-loop = search in
+    let step = face-step (loop .inv .2) (search needs) (end .corner .ensures .0) in
+    let long = length-slice (loop .start) (end .corner .result) corners (step .upto) in
+    rw (c .before .face .ensures)
+    (each-slice (loop .start) (end .corner .result) corners (pre .0 .inside), (omega arith, omega arith))
+
+loop-again : tie.Need-loop-again Inv-loop μ-loop
+loop-again c =
+    let at : tie.At-loop Inv-loop μ-loop = search in
+    let loop = at .loop in
+    let end : tie.After-corner Inv-loop μ-loop = search in
+    let with-face : tie.After-add-face-moments Inv-loop μ-loop = search in
+    let more = with-face .add-face-moments in
+    (loop .inv .0, omega (arith, more .kept), face-next (loop .inv .2) (search needs) (end .corner .ensures .0) (cc))
+
+returns : tie.Need-returns Inv-loop μ-loop
+returns c = face-end (c .before .loop .inv .2) (search needs)
+
 pub moments-in-spec : {M : Type 1} → statement M
 moments-in-spec =
     tie.close
     (tie.spec
-    (λ coords corners ends refp out₀ n m₀ start₀ k₀ out m start k. (n ≡ length ends) × (length out ≡ length out₀) × Facing (addFaceMoments (verticesOf coords) refp) corners ends (momentsOf (verticesOf coords) (facesOf corners ends)) start k m)
-    (λ coords corners ends refp out₀ n m₀ start₀ k₀ out m start k. n - k)
-    (λ c. (refl, refl, face-start (c .before .before .before .pre .0 .ordered) (rw (c .before .before .before .pre .1 .1) (moments-all (verticesOf (c .before .before .before .args .coords .now)) (facesOf (c .before .before .before .args .corners .now) (c .before .before .before .args .ends .now))))))
+    Inv-loop
+    μ-loop
+    loop-holds
     (λ c κs. search needs)
-    (λ c κs. let s = face-step (c .before .before .loop .inv .2) (search needs) (c .corner .ensures .0) in
-    (s .from, s .upto))
-    (λ c κs. let l = c .before .before .before .before .loop in
-    let s = face-step (l .inv .2) (search needs) (c .before .before .corner .ensures .0) in
-    let e = length-slice (l .start) (c .before .before .corner .result) (c .before .before .before .before .before .before .before .before .args .corners .now) (s .upto) in
-    let p = c .before .before .before .before .before .before .before .before .pre in
-    rw (c .before .face .ensures) (each-slice (l .start) (c .before .before .corner .result) (c .before .before .before .before .before .before .before .before .args .corners .now) (p .0 .inside), (omega arith, omega arith)))
+    face-requires
+    add-face-moments-requires
     (λ c. search needs)
     (λ c. search needs)
-    (λ c. let l = c .before .before .before .before .before .before .loop in
-    (l .inv .0, omega (arith, c .before .add-face-moments .kept), face-next (l .inv .2) (search needs) (c .before .before .before .before .corner .ensures .0) (cc)))
+    loop-again
     (λ c. search needs)
-    (λ c. face-end (c .before .loop .inv .2) (search needs)))
+    returns)

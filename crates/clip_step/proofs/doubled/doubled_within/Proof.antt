@@ -1,3 +1,5 @@
+-- `clip_step::doubled::doubled_within` meets its contract: m is the largest magnitude among the points before place i, and those that are
+-- left make it that of all points; 2^-46 is the definition's constant.
 use mathlib.Core.Path.{_≡_, refl, sym}
 use mathlib.Core.List.{[]}
 use Prim.Native.Nat.{_-_}
@@ -12,17 +14,32 @@ use borrow.Author.Needs.{needs}
 use Rattle.clip_step.proofs.doubled.doubled_within.Statement.{statement}
 use Rattle.clip_step.proofs.doubled.doubled_within.Tie as tie
 
-pub doubled-within-spec : {M : Type 1} → statement M
+abbrev Inv-loop : tie.InvT-loop
+Inv-loop s n m₀ i₀ m i =
+    (n ≡ length (verticesOf s)) × Taking largestCoordinate (verticesOf s) (foldList largestCoordinate (verticesOf s) zero64) i m
+
+abbrev μ-loop : tie.MeasureT-loop
+μ-loop s n m₀ i₀ m i = n - i
+
+loop-holds : tie.Need-loop-holds Inv-loop μ-loop
+loop-holds c = (sym (length-threes (c .before .args .s .now)), take-start refl)
+
+loop-again : tie.Need-loop-again Inv-loop μ-loop
+loop-again c =
+    let loop = c .before .before .before .loop in
+    (loop .inv .0, take-next [] (loop .inv .1) (search needs) (cc))
+
+returns : tie.Need-returns Inv-loop μ-loop
 unfolding doubledWithin
+returns c = cc (take-end (c .before .loop .inv .1) (search needs))
+
+pub doubled-within-spec : {M : Type 1} → statement M
 doubled-within-spec =
     tie.close
     (tie.spec
-    (λ s n m₀ i₀ m i. (n ≡ length (verticesOf s)) × Taking largestCoordinate (verticesOf s) (foldList largestCoordinate (verticesOf s) zero64) i m)
-    (λ s n m₀ i₀ m i. n - i)
-    (λ c. (sym (length-threes (c .before .args .s .now)), take-start refl))
-    (λ c κs. search needs)
-    (λ c κs. search needs)
-    (λ c. search needs)
-    (λ c. search needs)
-    (λ c. (c .before .before .before .loop .inv .0, take-next [] (c .before .before .before .loop .inv .1) (search needs) (cc)))
-    (λ c. cc (take-end (c .before .loop .inv .1) (search needs))))
+    Inv-loop
+    μ-loop
+    loop-holds
+    (λ c κs. search needs) (λ c κs. search needs) (λ c. search needs) (λ c. search needs)
+    loop-again
+    returns)

@@ -1,3 +1,5 @@
+-- `clip_step::edge::trim_at_edge` meets its contract: the sides run through the outline with its first point once more; what those from
+-- place i on leave makes, with what was laid down, the whole, and the last is taken after the loop.
 use mathlib.Core.Path.{_≡_, refl, sym, _∙_}
 use native.Mathlib.Omega.{arith}
 use Prim.Native.Nat.{_-_, _≤_}
@@ -11,21 +13,78 @@ use borrow.Author.Needs.{needs}
 use Rattle.clip_step.proofs.edge.trim_at_edge.Statement.{statement}
 use Rattle.clip_step.proofs.edge.trim_at_edge.Tie as tie
 
+abbrev Inv-loop : tie.InvT-loop
+Inv-loop src dst₀ a b n first first-in p₀ p-in₀ m₀ i₀ dst p p-in m i =
+    (n ≡ length (inPairs src)) × (length dst ≡ length dst₀) × (p-in ≡ onLeft a b p) × (i ≤ n) ×
+    Trimming (onLeft a b) (crossingOf a b) (ringed (inPairs src)) (trimmedAt a b (inPairs src)) (inPairs dst₀) p i m
+    (inPairs dst)
+
+abbrev μ-loop : tie.MeasureT-loop
+μ-loop src dst₀ a b n first first-in p₀ p-in₀ m₀ i₀ dst p p-in m i = n - i
+
+loop-holds : tie.Need-loop-holds Inv-loop μ-loop
+loop-holds c =
+    let args = c .before .before .before .before .args in
+    let pre = c .before .before .before .before .pre in (
+      sym (length-pairs (args .src .now)),
+      refl,
+      c .on-left .ensures,
+      omega (arith, length-pairs (args .src .now)),
+      trimming-start (omega (arith, length-ringed (inPairs (args .src .now))))
+          (trimmed-ringed (args .a) (args .b) (inPairs (args .src .now)) (pre .0) (c .before .pair .ensures)),
+    )
+
+emit-requires : tie.Need-emit-requires Inv-loop μ-loop
+emit-requires c κs =
+    let loop = c .before .before .before .before .loop in
+    let start : tie.Start Inv-loop μ-loop = search in
+    omega (arith, length-pairs (start .args .src .now), loop .inv .4 .few)
+
+loop-again : tie.Need-loop-again Inv-loop μ-loop
+loop-again c =
+    let emit = c .before .before .emit in
+    let on-left2 = c .before .before .before .before .on-left2 in
+    let pair2 = c .before .before .before .before .before .pair2 in
+    let loop-test = c .before .before .before .before .before .before .loop-test in
+    let loop = c .before .before .before .before .before .before .before .loop in
+    let start : tie.Start Inv-loop μ-loop = search in (
+      loop .inv .0,
+      emit .kept .0 ∙ loop .inv .1,
+      on-left2 .ensures,
+      omega arith,
+      ringed-more (inPairs (start .args .src .now)) (loop .inv .4) (omega (arith, loop .inv .0, loop-test .taken))
+          (pair2 .ensures) (rw (loop .inv .2, on-left2 .ensures) at (emit .ensures)),
+    )
+
+emit-requires-2 : tie.Need-emit-requires-2 Inv-loop μ-loop
+emit-requires-2 c κs =
+    let loop = c .before .before .loop in
+    let start : tie.Start Inv-loop μ-loop = search in
+    omega (arith, length-pairs (start .args .src .now), loop .inv .4 .few)
+
+returns : tie.Need-returns Inv-loop μ-loop
+returns c =
+    let emit2 = c .before .before .emit2 in
+    let loop-test = c .before .before .before .before .loop-test in
+    let loop = c .before .before .before .before .before .loop in
+    let on-left = c .before .before .before .before .before .before .on-left in
+    let pair = c .before .before .before .before .before .before .before .pair in
+    let start : tie.Start Inv-loop μ-loop = search in
+    ringed-end (inPairs (start .args .src .now)) (loop .inv .4) (omega (arith, loop .inv .0, loop .inv .3, loop-test .left))
+    (pair .ensures) (rw (loop .inv .2, on-left .ensures) at (emit2 .ensures))
+
 pub trim-at-edge-spec : {M : Type 1} → statement M
 trim-at-edge-spec =
     tie.close
     (tie.spec
-    (λ src dst₀ a b n first first-in p₀ p-in₀ m₀ i₀ dst p p-in m i. (n ≡ length (inPairs src)) × (length dst ≡ length dst₀) × (p-in ≡ onLeft a b p) × (i ≤ n) × Trimming (onLeft a b) (crossingOf a b) (ringed (inPairs src)) (trimmedAt a b (inPairs src)) (inPairs dst₀) p i m (inPairs dst))
-    (λ src dst₀ a b n first first-in p₀ p-in₀ m₀ i₀ dst p p-in m i. n - i)
-    (λ c κs. search needs)
-    (λ c κs. search needs)
-    (λ c. (sym (length-pairs (c .before .before .before .before .args .src .now)), refl, c .on-left .ensures, omega (arith, length-pairs (c .before .before .before .before .args .src .now)), trimming-start (omega (arith, length-ringed (inPairs (c .before .before .before .before .args .src .now)))) (trimmed-ringed (c .before .before .before .before .args .a) (c .before .before .before .before .args .b) (inPairs (c .before .before .before .before .args .src .now)) (c .before .before .before .before .pre .0) (c .before .pair .ensures))))
-    (λ c κs. search needs)
-    (λ c κs. search needs)
-    (λ c κs. omega (arith, length-pairs (c .before .before .before .before .before .before .before .before .before .args .src .now), c .before .before .before .before .loop .inv .4 .few))
+    Inv-loop
+    μ-loop
+    (λ c κs. search needs) (λ c κs. search needs)
+    loop-holds
+    (λ c κs. search needs) (λ c κs. search needs)
+    emit-requires
+    (λ c. search needs) (λ c. search needs)
+    loop-again
+    emit-requires-2
     (λ c. search needs)
-    (λ c. search needs)
-    (λ c. (c .before .before .before .before .before .before .before .loop .inv .0, c .before .before .emit .kept .0 ∙ c .before .before .before .before .before .before .before .loop .inv .1, c .before .before .before .before .on-left2 .ensures, omega arith, ringed-more (inPairs (c .before .before .before .before .before .before .before .before .before .before .before .before .args .src .now)) (c .before .before .before .before .before .before .before .loop .inv .4) (omega (arith, c .before .before .before .before .before .before .before .loop .inv .0, c .before .before .before .before .before .before .loop-test .taken)) (c .before .before .before .before .before .pair2 .ensures) (rw (c .before .before .before .before .before .before .before .loop .inv .2, c .before .before .before .before .on-left2 .ensures) at (c .before .before .emit .ensures))))
-    (λ c κs. omega (arith, length-pairs (c .before .before .before .before .before .before .before .args .src .now), c .before .before .loop .inv .4 .few))
-    (λ c. c .before .before .emit2 .kept .0 ∙ c .before .before .before .before .before .loop .inv .1)
-    (λ c. ringed-end (inPairs (c .before .before .before .before .before .before .before .before .before .before .args .src .now)) (c .before .before .before .before .before .loop .inv .4) (omega (arith, c .before .before .before .before .before .loop .inv .0, c .before .before .before .before .before .loop .inv .3, c .before .before .before .before .loop-test .left)) (c .before .before .before .before .before .before .before .pair .ensures) (rw (c .before .before .before .before .before .loop .inv .2, c .before .before .before .before .before .before .on-left .ensures) at (c .before .before .emit2 .ensures))))
+    returns)

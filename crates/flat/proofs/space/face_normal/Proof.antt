@@ -1,3 +1,5 @@
+-- `flat::space::face_normal` meets its contract: the loop keeps the corner that it came from, and the sides still to walk make, with the
+-- sums so far, the whole (`Walking`).
 use mathlib.Core.Path.{_≡_, refl}
 use mathlib.Core.List.{[]}
 use Prim.Native.Nat.{_-_}
@@ -11,20 +13,51 @@ use borrow.Author.Needs.{needs}
 use Rattle.flat.proofs.space.face_normal.Statement.{statement}
 use Rattle.flat.proofs.space.face_normal.Tie as tie
 
-pub face-normal-spec : {M : Type 1} → statement M
+abbrev Inv-loop : tie.InvT-loop
+Inv-loop coords face n first s₀ a₀ i₀ s a i =
+    let ps = cornersOf (verticesOf coords) face in
+    (n ≡ length face) × Walking newellSide ps (newellOf ps) first i a s
+
+abbrev μ-loop : tie.MeasureT-loop
+μ-loop coords face n first s₀ a₀ i₀ s a i = n - i
+
+none : tie.Need-returns Inv-loop μ-loop
+none c = no-corners _ _ (search needs)
+
+loop-holds : tie.Need-loop-holds Inv-loop μ-loop
 unfolding newellOf
+loop-holds c =
+    let start : tie.Start Inv-loop μ-loop = search in
+    let as-many = length-corners (verticesOf (start .args .coords .now)) (start .args .face .now) in
+    (refl, walk-start [] (omega arith) (c .vertex-at .ensures) refl)
+
+loop-again : tie.Need-loop-again Inv-loop μ-loop
+loop-again c =
+    let start : tie.Start Inv-loop μ-loop = search in
+    let at : tie.At-loop Inv-loop μ-loop = search in
+    let as-many = length-corners (verticesOf (start .args .coords .now)) (start .args .face .now) in
+    (at .loop .inv .0, walk-next [] (at .loop .inv .1) (omega arith) (c .before .vertex-at2 .ensures) (cc))
+
+returns : tie.Need-returns-2 Inv-loop μ-loop
+returns c =
+    let start : tie.Start Inv-loop μ-loop = search in
+    let at : tie.At-loop Inv-loop μ-loop = search in
+    let as-many = length-corners (verticesOf (start .args .coords .now)) (start .args .face .now) in
+    walk-end (at .loop .inv .1) (omega arith) (c .newell-side2 .ensures)
+
+pub face-normal-spec : {M : Type 1} → statement M
 face-normal-spec =
     tie.close
     (tie.spec
-    (λ coords face n first s₀ a₀ i₀ s a i. (n ≡ length face) × Walking newellSide (cornersOf (verticesOf coords) face) (newellOf (cornersOf (verticesOf coords) face)) first i a s)
-    (λ coords face n first s₀ a₀ i₀ s a i. n - i)
-    (λ c. no-corners _ _ (search needs))
+    Inv-loop
+    μ-loop
+    none
     (λ c κs. search needs)
-    (λ c. let e = length-corners (verticesOf (c .before .before .before .before .args .coords .now)) (c .before .before .before .before .args .face .now) in (refl, walk-start [] (omega arith) (c .vertex-at .ensures) refl))
+    loop-holds
     (λ c κs. search needs)
     (λ c κs. search needs)
     (λ c. search needs)
     (λ c. search needs)
-    (λ c. let e = length-corners (verticesOf (c .before .before .before .before .before .before .before .before .args .coords .now)) (c .before .before .before .before .before .before .before .before .args .face .now) in (c .before .before .before .loop .inv .0, walk-next [] (c .before .before .before .loop .inv .1) (omega arith) (c .before .vertex-at2 .ensures) (cc)))
+    loop-again
     (λ c κs. search needs)
-    (λ c. let e = length-corners (verticesOf (c .before .before .before .before .before .before .before .args .coords .now)) (c .before .before .before .before .before .before .before .args .face .now) in walk-end (c .before .before .loop .inv .1) (omega arith) (c .newell-side2 .ensures)))
+    returns)

@@ -1,28 +1,66 @@
+-- `flat::space::put_vertex` meets its contract: storing three numbers from 3 v on is storing the point at v (`threes-set`), and the numbers
+-- over stay (`over-threes-set`).
+use Prim.Native.Nat.{_+_, _*_, _/_, _<_}
 use native.Mathlib.Omega.{arith}
 use lib.Ieee.{nan}
-use Prim.Native.Nat.{_/_, _<_}
 use lib.ListN.{length, length-set}
 use Rattle.places.proofs.Stored.{length-threes, threes-set, over-threes-set}
 use borrow.Author.Needs.{needs}
 use Rattle.flat.proofs.space.put_vertex.Statement.{statement}
 use Rattle.flat.proofs.space.put_vertex.Tie as tie
 
+-- the three places of the vertex v are in the list
+room : (c : tie.Start) → c .args .v * 3 + 2 < length (c .args .coords .now)
+room c = omega (arith, length-threes (c .args .coords .now))
+
+mul-i : tie.Need-mul-i
+mul-i c = omega (arith, room c)
+
+mul-coords : tie.Need-mul-coords
+mul-coords c = omega (arith, room c)
+
+slice-write-coords : tie.Need-slice-write-coords
+slice-write-coords c = omega (arith, room c)
+
+add-coords : tie.Need-add-coords
+add-coords c = omega (arith, room c)
+
+mul-coords-2 : tie.Need-mul-coords-2
+mul-coords-2 c = omega (arith, room c)
+
+slice-write-coords-2 : tie.Need-slice-write-coords-2
+slice-write-coords-2 c = simp length-set (omega (arith, room c))
+
+add-coords-2 : tie.Need-add-coords-2
+add-coords-2 c = omega (arith, room c)
+
+mul-coords-3 : tie.Need-mul-coords-3
+mul-coords-3 c = omega (arith, room c)
+
+slice-write-coords-3 : tie.Need-slice-write-coords-3
+slice-write-coords-3 c = simp length-set (omega (arith, room c))
+
+returns : tie.Need-returns
+returns c =
+    let coords = c .args .coords .now in
+    let below : c .args .v < length coords / 3 = omega (arith, room c) in
+    (threes-set coords (c .args .v) (c .args .t3) nan (search needs) below, over-threes-set coords (c .args .v) _ _ _ below)
+
 pub put-vertex-spec : {M : Type 1} → statement M
 put-vertex-spec =
     tie.close
     (tie.spec
-    (λ c. omega (arith, length-threes (c .args .coords .now)))
+    mul-i
     (λ c. search needs)
-    (λ c. omega (arith, length-threes (c .args .coords .now)))
-    (λ c. omega (arith, length-threes (c .args .coords .now)))
+    mul-coords
+    slice-write-coords
     (λ c. search needs)
-    (λ c. omega (arith, length-threes (c .args .coords .now)))
-    (λ c. omega (arith, length-threes (c .args .coords .now)))
-    (λ c. simp length-set (omega (arith, length-threes (c .args .coords .now))))
+    add-coords
+    mul-coords-2
+    slice-write-coords-2
     (λ c. search needs)
-    (λ c. omega (arith, length-threes (c .args .coords .now)))
-    (λ c. omega (arith, length-threes (c .args .coords .now)))
-    (λ c. simp length-set (omega (arith, length-threes (c .args .coords .now))))
+    add-coords-2
+    mul-coords-3
+    slice-write-coords-3
     (λ c. search needs)
-    (λ c. let below : c .args .v < length (c .args .coords .now) / 3 = omega (arith, length-threes (c .args .coords .now)) in
-    (threes-set (c .args .coords .now) (c .args .v) (c .args .t3) nan (search needs) below, over-threes-set (c .args .coords .now) (c .args .v) _ _ _ below)))
+    returns)

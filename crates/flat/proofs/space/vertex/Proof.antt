@@ -1,17 +1,49 @@
+-- `flat::space::vertex` meets its contract: of a list in threes the point at v has the three numbers from 3 v on (`threes-at`), and where
+-- there is a point at v these are in the list.
+use Prim.Native.Nat.{_+_, _*_, _<_}
 use native.Mathlib.Omega.{arith}
 use lib.Ieee.{nan}
+use lib.ListN.{length}
 use Rattle.places.proofs.Stored.{length-threes, threes-at}
 use Rattle.flat.proofs.space.vertex.Statement.{statement}
 use Rattle.flat.proofs.space.vertex.Tie as tie
+
+-- the three numbers of the vertex v are in the list
+room : (c : tie.Start) → c .args .v * 3 + 2 < length (c .args .coords .now)
+room c = omega (arith, length-threes (c .args .coords .now))
+
+mul-i : tie.Need-mul-i
+mul-i c = let start : tie.Start = search in omega (arith, room start)
+
+num-requires : tie.Need-num-requires
+num-requires c κs = let start : tie.Start = search in omega (arith, room start)
+
+add-num : tie.Need-add-num
+add-num c = let start : tie.Start = search in omega (arith, room start)
+
+num-requires-2 : tie.Need-num-requires-2
+num-requires-2 c κs = let start : tie.Start = search in omega (arith, room start)
+
+add-num-2 : tie.Need-add-num-2
+add-num-2 c = let start : tie.Start = search in omega (arith, room start)
+
+num-requires-3 : tie.Need-num-requires-3
+num-requires-3 c κs = let start : tie.Start = search in omega (arith, room start)
+
+returns : tie.Need-returns
+returns c =
+    let start : tie.Start = search in
+    let args = start .args in
+    cc (threes-at (args .coords .now) (args .v) nan (omega (arith, room start)))
 
 pub vertex-spec : {M : Type 1} → statement M
 vertex-spec =
     tie.close
     (tie.spec
-    (λ c. omega (arith, length-threes (c .before .args .coords .now)))
-    (λ c κs. omega (arith, length-threes (c .before .args .coords .now)))
-    (λ c. omega (arith, length-threes (c .before .before .args .coords .now)))
-    (λ c κs. omega (arith, length-threes (c .before .before .args .coords .now)))
-    (λ c. omega (arith, length-threes (c .before .before .before .args .coords .now)))
-    (λ c κs. omega (arith, length-threes (c .before .before .before .args .coords .now)))
-    (λ c. cc (threes-at (c .before .before .before .before .args .coords .now) (c .before .before .before .before .args .v) nan (omega (arith, length-threes (c .before .before .before .before .args .coords .now))))))
+    mul-i
+    num-requires
+    add-num
+    num-requires-2
+    add-num-2
+    num-requires-3
+    returns)

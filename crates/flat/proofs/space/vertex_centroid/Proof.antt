@@ -1,3 +1,5 @@
+-- `flat::space::vertex_centroid` meets its contract: each pass adds one point, so the points that are left make, with the sum so far, the
+-- whole (`Taking`); at most 256 points fit the count.
 use mathlib.Core.Path.{_≡_, refl, sym}
 use Prim.Native.Nat.{_-_, _≤_}
 use lib.ListN.{length}
@@ -12,20 +14,43 @@ use borrow.Author.Needs.{needs}
 use Rattle.flat.proofs.space.vertex_centroid.Statement.{statement}
 use Rattle.flat.proofs.space.vertex_centroid.Tie as tie
 
-pub vertex-centroid-spec : {M : Type 1} → statement M
+abbrev Inv-loop : tie.InvT-loop
+Inv-loop coords n s₀ i₀ s i =
+    let ps = verticesOf coords in
+    (n ≡ length ps) × (n ≤ 256) × Taking (plusOf 3) ps (foldList (plusOf 3) ps (pointBy 3 (λ k. zero64))) i s
+
+abbrev μ-loop : tie.MeasureT-loop
+μ-loop coords n s₀ i₀ s i = n - i
+
+loop-holds : tie.Need-loop-holds Inv-loop μ-loop
+loop-holds c =
+    let start : tie.Start Inv-loop μ-loop = search in
+    (sym (length-threes (start .args .coords .now)), omega arith, take-start refl)
+
+loop-again : tie.Need-loop-again Inv-loop μ-loop
+loop-again c =
+    let at : tie.At-loop Inv-loop μ-loop = search in
+    (at .loop .inv .0, at .loop .inv .1, take-next [] (at .loop .inv .2) (search needs) (cc))
+
+returns : tie.Need-returns Inv-loop μ-loop
 unfolding centroidOf
+returns c =
+    let at : tie.At-loop Inv-loop μ-loop = search in
+    cc (take-end (at .loop .inv .2) (search needs))
+
+pub vertex-centroid-spec : {M : Type 1} → statement M
 vertex-centroid-spec =
     tie.close
     (tie.spec
-    (λ coords n s₀ i₀ s i. (n ≡ length (verticesOf coords)) × (n ≤ 256) × Taking (plusOf 3) (verticesOf coords) (foldList (plusOf 3) (verticesOf coords) (pointBy 3 (λ k. zero64))) i s)
-    (λ coords n s₀ i₀ s i. n - i)
-    (λ c. (sym (length-threes (c .before .args .coords .now)), omega arith, take-start refl))
+    Inv-loop
+    μ-loop
+    loop-holds
     (λ c κs. search needs)
     (λ c κs. search needs)
     (λ c. search needs)
     (λ c. search needs)
-    (λ c. (c .before .before .before .loop .inv .0, c .before .before .before .loop .inv .1, take-next [] (c .before .before .before .loop .inv .2) (search needs) (cc)))
+    loop-again
     (λ c. search needs)
     (λ c κs. search needs)
     (λ c κs. search needs)
-    (λ c. cc (take-end (c .before .before .before .loop .inv .2) (search needs))))
+    returns)

@@ -1,4 +1,5 @@
--- `floats::square::scale_subnormal` meets its contract. The invariant: a is b times 4 ^ d, and below 2 ^ 54. The measure is what is left up to that.
+-- `floats::square::scale_subnormal` meets its contract. The invariant: a is b times 4 ^ d, and below 2 ^ 54.
+-- The measure is what is left up to that.
 use mathlib.Core.Path.{_≡_}
 use Prim.Native.Nat.{_-_, _*_, _^_, _<_}
 use native.Mathlib.Omega.{arith}
@@ -15,18 +16,45 @@ abbrev μ-loop : tie.MeasureT-loop
 few-turns : (c : tie.At-loop Inv-loop μ-loop) → c .loop .d < 27
 few-turns c = few (c .before .args .b) (c .loop .a) (c .loop .d) (c .before .pre .0) (c .loop .inv .1) (c .loop .inv .2)
 
+loop-holds : tie.Need-loop-holds Inv-loop μ-loop
+loop-holds c = omega arith
+
+mul-a : tie.Need-mul-a Inv-loop μ-loop
+mul-a c = omega arith
+
+add-d : tie.Need-add-d Inv-loop μ-loop
+add-d c = omega (arith, few-turns (c .before))
+
+loop-less : tie.Need-loop-less Inv-loop μ-loop
+loop-less c = omega arith
+
+loop-again : tie.Need-loop-again Inv-loop μ-loop
+loop-again c =
+    let loop = c .before .loop in
+    let args = c .before .before .args in
+    (omega arith, omega arith, next-d (args .b) (loop .a) (loop .d) (loop .inv .2))
+
+sub-t5 : tie.Need-sub-t5 Inv-loop μ-loop
+sub-t5 c = omega (arith, few-turns (c .before))
+
+returns : tie.Need-returns Inv-loop μ-loop
+returns c =
+    let loop = c .before .loop in
+    let args = c .before .before .args in
+    let pre = c .before .before .pre in
+    small-scaled (args .b) (loop .a) (loop .d) (pre .1) (c .loop-test .left) (loop .inv .1) (few-turns (c .before))
+    (loop .inv .2)
+
 pub scale-subnormal-spec : {M : Type 1} → statement M
 scale-subnormal-spec =
     tie.close
     (tie.spec
     Inv-loop
     μ-loop
-    (λ c. omega arith)
-    (λ c. omega arith)
-    (λ c. omega (arith, few-turns (c .before)))
-    (λ c. omega arith)
-    (λ c. (omega arith, omega arith, next-d (c .before .before .args .b) (c .before .loop .a) (c .before .loop .d) (c .before .loop .inv .2)))
-    (λ c. omega (arith, few-turns (c .before)))
-    (λ c.
-    let at = c .before .loop in
-    small-scaled (c .before .before .args .b) (at .a) (at .d) (c .before .before .pre .1) (c .loop-test .left) (at .inv .1) (few-turns (c .before)) (at .inv .2)))
+    loop-holds
+    mul-a
+    add-d
+    loop-less
+    loop-again
+    sub-t5
+    returns)

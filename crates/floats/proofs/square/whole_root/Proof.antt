@@ -1,4 +1,5 @@
--- `floats::square::whole_root` meets its contract. The invariant: a is below the square of r + 1, and r is at most 2 ^ 30. The measure is r (proofs/Newton.antt).
+-- `floats::square::whole_root` meets its contract. The invariant: a is below the square of r + 1, and r is at most 2 ^ 30.
+-- The measure is r (proofs/Newton.antt).
 use Prim.Native.Nat.{_+_, _*_, _/_, _^_, _≤_, _<_}
 use native.Mathlib.Nat.{lt-of-le-of-lt, mul-le-mul, div-le-of-le-mul}
 use native.Mathlib.Omega.{arith}
@@ -17,6 +18,36 @@ abbrev μ-loop : tie.MeasureT-loop
 quotient-le : (c : tie.After-guess Inv-loop μ-loop) → c .before .args .a / c .guess .result ≤ 2 ^ 30
 quotient-le c = div-le-of-le-mul (c .guess .result) (omega arith)
 
+div-r : tie.Need-div-r Inv-loop μ-loop
+div-r c = omega arith
+
+add-r : tie.Need-add-r Inv-loop μ-loop
+add-r c = omega (arith, quotient-le c)
+
+loop-holds : tie.Need-loop-holds Inv-loop μ-loop
+loop-holds c = (newton-above (c .before .args .a) (c .guess .result) (omega arith), omega (arith, quotient-le c))
+
+mul-loop : tie.Need-mul-loop Inv-loop μ-loop
+mul-loop c = record { fits = lt-of-le-of-lt (mul-le-mul (c .loop .inv .1) (c .loop .inv .1)) (lit< tt) }
+
+sub-r : tie.Need-sub-r Inv-loop μ-loop
+sub-r c =
+    let args = c .before .before .before .args in
+    sq-pos (args .a) (c .before .loop .r) (c .loop-test .taken)
+
+loop-less : tie.Need-loop-less Inv-loop μ-loop
+loop-less c =
+    let args = c .before .before .before .args in
+    omega (arith, sq-pos (args .a) (c .before .loop .r) (c .loop-test .taken))
+
+loop-again : tie.Need-loop-again Inv-loop μ-loop
+loop-again c =
+    let args = c .before .before .before .args in
+    (one-less (args .a) (c .before .loop .r) (c .loop-test .taken), omega arith)
+
+returns : tie.Need-returns Inv-loop μ-loop
+returns c = record { reached = c .loop-test .left; not-passed = c .before .loop .inv .0 }
+
 pub whole-root-spec : {M : Type 1} → statement M
 whole-root-spec =
     tie.close
@@ -24,11 +55,11 @@ whole-root-spec =
     Inv-loop
     μ-loop
     (λ c κs. search needs)
-    (λ c. omega arith)
-    (λ c. omega (arith, quotient-le c))
-    (λ c. (newton-above (c .before .args .a) (c .guess .result) (omega arith), omega (arith, quotient-le c)))
-    (λ c. record { fits = lt-of-le-of-lt (mul-le-mul (c .loop .inv .1) (c .loop .inv .1)) (lit< tt) })
-    (λ c. sq-pos (c .before .before .before .args .a) (c .before .loop .r) (c .loop-test .taken))
-    (λ c. omega (arith, sq-pos (c .before .before .before .args .a) (c .before .loop .r) (c .loop-test .taken)))
-    (λ c. (one-less (c .before .before .before .args .a) (c .before .loop .r) (c .loop-test .taken), omega arith))
-    (λ c. record { reached = c .loop-test .left; not-passed = c .before .loop .inv .0 }))
+    div-r
+    add-r
+    loop-holds
+    mul-loop
+    sub-r
+    loop-less
+    loop-again
+    returns)

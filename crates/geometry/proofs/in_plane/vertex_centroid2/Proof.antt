@@ -8,13 +8,29 @@ use borrow.Author.Needs.{needs}
 use Rattle.geometry.proofs.in_plane.vertex_centroid2.Statement.{statement}
 use Rattle.geometry.proofs.in_plane.vertex_centroid2.Tie as tie
 
+returns : tie.Need-returns
+unfolding vertexCentroid2Answer
+returns c = refused (c .before .plane-refusal .ensures) PlanePlace.Refused _ (c .if1 .taken)
+
+vertex-centroid2-requires : tie.Need-vertex-centroid2-requires
+vertex-centroid2-requires c κs =
+    let args = c .before .before .before .args in
+    plane-counted (args .ps .now) (sym (c .before .plane-refusal .ensures) ∙ c .if1 .left) .1
+
+returns-2 : tie.Need-returns-2
+unfolding vertexCentroid2Answer
+returns-2 c =
+    let if1 = c .before .before .if1 in
+    let plane-refusal = c .before .before .before .plane-refusal in
+    passed (plane-refusal .ensures) _ (if1 .left) (cc)
+
 pub vertex-centroid2-spec : {M : Type 1} → statement M
 unfolding vertexCentroid2Answer
 vertex-centroid2-spec =
     tie.close
     (tie.spec
     (λ c κs. search needs)
-    (λ c. refused (c .before .plane-refusal .ensures) PlanePlace.Refused _ (c .if1 .taken))
-    (λ c κs. plane-counted (c .before .before .before .args .ps .now) (sym (c .before .plane-refusal .ensures) ∙ c .if1 .left) .1)
+    returns
+    vertex-centroid2-requires
     (λ c κs. search needs)
-    (λ c. passed (c .before .before .before .plane-refusal .ensures) _ (c .before .before .if1 .left) (cc)))
+    returns-2)

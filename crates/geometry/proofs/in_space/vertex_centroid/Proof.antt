@@ -10,14 +10,30 @@ use borrow.Author.Needs.{needs}
 use Rattle.geometry.proofs.in_space.vertex_centroid.Statement.{statement}
 use Rattle.geometry.proofs.in_space.vertex_centroid.Tie as tie
 
+returns : tie.Need-returns
+unfolding vertexCentroidAnswer
+returns c = refused (c .before .list-refusal .ensures) Place.Refused _ (c .if1 .taken)
+
+vertex-centroid-requires : tie.Need-vertex-centroid-requires
+vertex-centroid-requires c κs =
+    let args = c .before .before .before .args in
+    let s = list-counted (args .coords .now) (sym (c .before .list-refusal .ensures) ∙ c .if1 .left) in
+    omega (arith, length-threes (args .coords .now), s .threes, s .few)
+
+returns-2 : tie.Need-returns-2
+unfolding vertexCentroidAnswer
+returns-2 c =
+    let if1 = c .before .before .if1 in
+    let list-refusal = c .before .before .before .list-refusal in
+    passed (list-refusal .ensures) _ (if1 .left) (cc)
+
 pub vertex-centroid-spec : {M : Type 1} → statement M
 unfolding vertexCentroidAnswer
 vertex-centroid-spec =
     tie.close
     (tie.spec
     (λ c κs. search needs)
-    (λ c. refused (c .before .list-refusal .ensures) Place.Refused _ (c .if1 .taken))
-    (λ c κs. let s = list-counted (c .before .before .before .args .coords .now) (sym (c .before .list-refusal .ensures) ∙ c .if1 .left) in
-    omega (arith, length-threes (c .before .before .before .args .coords .now), s .threes, s .few))
+    returns
+    vertex-centroid-requires
     (λ c κs. search needs)
-    (λ c. passed (c .before .before .before .list-refusal .ensures) _ (c .before .before .if1 .left) (cc)))
+    returns-2)

@@ -1,3 +1,4 @@
+-- `overlap::tolerances::add_points` meets its contract: from place i on, the sum so far comes to the whole fold over the points.
 use mathlib.Core.Path.{_≡_, refl, sym}
 use mathlib.Core.List.{[]}
 use Prim.Native.Nat.{_-_}
@@ -10,16 +11,31 @@ use borrow.Author.Needs.{needs}
 use Rattle.overlap.proofs.tolerances.add_points.Statement.{statement}
 use Rattle.overlap.proofs.tolerances.add_points.Tie as tie
 
+abbrev Inv-loop : tie.InvT-loop
+Inv-loop coords n t₀ i₀ t i =
+    (n ≡ length (verticesOf coords)) × Taking (plusOf 3) (verticesOf coords) (foldList (plusOf 3) (verticesOf coords) t₀) i t
+
+abbrev μ-loop : tie.MeasureT-loop
+μ-loop coords n t₀ i₀ t i = n - i
+
+loop-holds : tie.Need-loop-holds Inv-loop μ-loop
+loop-holds c = (sym (length-threes (c .before .args .coords .now)), take-start refl)
+
+loop-again : tie.Need-loop-again Inv-loop μ-loop
+loop-again c =
+    let loop = c .before .before .before .loop in
+    (loop .inv .0, take-next [] (loop .inv .1) (search needs) (cc))
+
+returns : tie.Need-returns Inv-loop μ-loop
+returns c = take-end (c .before .loop .inv .1) (search needs)
+
 pub add-points-spec : {M : Type 1} → statement M
 add-points-spec =
     tie.close
     (tie.spec
-    (λ coords n t₀ i₀ t i. (n ≡ length (verticesOf coords)) × Taking (plusOf 3) (verticesOf coords) (foldList (plusOf 3) (verticesOf coords) t₀) i t)
-    (λ coords n t₀ i₀ t i. n - i)
-    (λ c. (sym (length-threes (c .before .args .coords .now)), take-start refl))
-    (λ c κs. search needs)
-    (λ c κs. search needs)
-    (λ c. search needs)
-    (λ c. search needs)
-    (λ c. (c .before .before .before .loop .inv .0, take-next [] (c .before .before .before .loop .inv .1) (search needs) (cc)))
-    (λ c. take-end (c .before .loop .inv .1) (search needs)))
+    Inv-loop
+    μ-loop
+    loop-holds
+    (λ c κs. search needs) (λ c κs. search needs) (λ c. search needs) (λ c. search needs)
+    loop-again
+    returns)

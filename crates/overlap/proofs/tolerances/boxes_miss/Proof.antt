@@ -1,32 +1,38 @@
+-- `overlap::tolerances::boxes_miss` meets its contract: the axes are asked in the definition's order, and the first along which the boxes
+-- are apart decides.
 use Rattle.overlap.specs.Tolerances.{boxesMiss, apartAlong}
 use borrow.Author.Needs.{needs}
 use Rattle.overlap.proofs.tolerances.boxes_miss.Statement.{statement}
 use Rattle.overlap.proofs.tolerances.boxes_miss.Tie as tie
+
+returns : tie.Need-returns
+unfolding boxesMiss apartAlong
+returns c = rw (← c .before .apart .ensures, c .if1 .taken)
+
+returns-2 : tie.Need-returns-2
+unfolding boxesMiss apartAlong
+returns-2 c =
+    let if1 = c .before .before .if1 in
+    let apart = c .before .before .before .apart in
+    rw (← apart .ensures, if1 .left, ← c .before .apart2 .ensures, c .if2 .taken)
+
+returns-3 : tie.Need-returns-3
+unfolding boxesMiss apartAlong
+returns-3 c =
+    let apart2 = c .before .before .apart2 in
+    let if1 = c .before .before .before .if1 in
+    let apart = c .before .before .before .before .apart in
+    rw (← apart .ensures, if1 .left, ← apart2 .ensures, c .before .if2 .left, ← c .apart3 .ensures)
 
 pub boxes-miss-spec : {M : Type 1} → statement M
 unfolding boxesMiss apartAlong
 boxes-miss-spec =
     tie.close
     (tie.spec
-    (λ c. search needs)
-    (λ c. search needs)
-    (λ c. search needs)
-    (λ c. search needs)
-    (λ c. search needs)
-    (λ c. search needs)
-    (λ c. search needs)
-    (λ c. search needs)
-    (λ c κs. search needs)
-    (λ c. rw (← c .before .apart .ensures, c .if1 .taken))
-    (λ c. search needs)
-    (λ c. search needs)
-    (λ c. search needs)
-    (λ c. search needs)
-    (λ c κs. search needs)
-    (λ c. rw (← c .before .before .before .apart .ensures, c .before .before .if1 .left, ← c .before .apart2 .ensures, c .if2 .taken))
-    (λ c. search needs)
-    (λ c. search needs)
-    (λ c. search needs)
-    (λ c. search needs)
-    (λ c κs. search needs)
-    (λ c. rw (← c .before .before .before .before .apart .ensures, c .before .before .before .if1 .left, ← c .before .before .apart2 .ensures, c .before .if2 .left, ← c .apart3 .ensures)))
+    (λ c. search needs) (λ c. search needs) (λ c. search needs) (λ c. search needs) (λ c. search needs) (λ c. search needs)
+    (λ c. search needs) (λ c. search needs) (λ c κs. search needs)
+    returns
+    (λ c. search needs) (λ c. search needs) (λ c. search needs) (λ c. search needs) (λ c κs. search needs)
+    returns-2
+    (λ c. search needs) (λ c. search needs) (λ c. search needs) (λ c. search needs) (λ c κs. search needs)
+    returns-3)

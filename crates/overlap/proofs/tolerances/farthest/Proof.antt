@@ -1,3 +1,4 @@
+-- `overlap::tolerances::farthest` meets its contract: from place i on, the largest square so far comes to the whole fold over the points.
 use mathlib.Core.Path.{_≡_, refl, sym}
 use mathlib.Core.List.{[]}
 use Prim.Native.Nat.{_-_}
@@ -11,18 +12,36 @@ use borrow.Author.Needs.{needs}
 use Rattle.overlap.proofs.tolerances.farthest.Statement.{statement}
 use Rattle.overlap.proofs.tolerances.farthest.Tie as tie
 
+abbrev Inv-loop : tie.InvT-loop
+Inv-loop coords c m n far₀ i₀ far i =
+    (n ≡ length (verticesOf coords)) ×
+    Taking (fartherSquare c) (verticesOf coords) (foldList (fartherSquare c) (verticesOf coords) far₀) i far
+
+abbrev μ-loop : tie.MeasureT-loop
+μ-loop coords c m n far₀ i₀ far i = n - i
+
+loop-holds : tie.Need-loop-holds Inv-loop μ-loop
+unfolding fartherSquare
+loop-holds c = (sym (length-threes (c .before .args .coords .now)), take-start refl)
+
+loop-again : tie.Need-loop-again Inv-loop μ-loop
+unfolding fartherSquare
+loop-again c =
+    let loop = c .before .before .before .before .loop in
+    (loop .inv .0, take-next [] (loop .inv .1) (search needs) (cc))
+
+returns : tie.Need-returns Inv-loop μ-loop
+unfolding fartherSquare
+returns c = take-end (c .before .loop .inv .1) (search needs)
+
 pub farthest-spec : {M : Type 1} → statement M
 unfolding fartherSquare
 farthest-spec =
     tie.close
     (tie.spec
-    (λ coords c m n far₀ i₀ far i. (n ≡ length (verticesOf coords)) × Taking (fartherSquare c) (verticesOf coords) (foldList (fartherSquare c) (verticesOf coords) far₀) i far)
-    (λ coords c m n far₀ i₀ far i. n - i)
-    (λ c. (sym (length-threes (c .before .args .coords .now)), take-start refl))
-    (λ c κs. search needs)
-    (λ c κs. search needs)
-    (λ c κs. search needs)
-    (λ c. search needs)
-    (λ c. search needs)
-    (λ c. (c .before .before .before .before .loop .inv .0, take-next [] (c .before .before .before .before .loop .inv .1) (search needs) (cc)))
-    (λ c. take-end (c .before .loop .inv .1) (search needs)))
+    Inv-loop
+    μ-loop
+    loop-holds
+    (λ c κs. search needs) (λ c κs. search needs) (λ c κs. search needs) (λ c. search needs) (λ c. search needs)
+    loop-again
+    returns)

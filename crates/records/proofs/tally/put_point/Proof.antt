@@ -1,3 +1,4 @@
+-- `records::tally::put_point` meets its contract: three stores one behind the other are the run of stores of the three fields.
 use native.Mathlib.Omega.{arith}
 use lib.ListN.{length-set}
 use lib.Ieee.{binary64, ofBits}
@@ -6,20 +7,28 @@ use borrow.Author.Needs.{needs}
 use Rattle.records.proofs.tally.put_point.Statement.{statement}
 use Rattle.records.proofs.tally.put_point.Tie as tie
 
+slice-write-list-2 : tie.Need-slice-write-list-2
+slice-write-list-2 c = simp length-set (omega arith)
+
+slice-write-list-3 : tie.Need-slice-write-list-3
+slice-write-list-3 c = simp length-set (omega arith)
+
+returns : tie.Need-returns
+returns c =
+    let record { before = _; of-pattern = of-pattern } : tie.After-of-pattern = search in
+    let start : tie.Start = search in
+    let args = start .args in
+    rw (of-pattern .ensures, c .before .of-pattern2 .ensures, c .of-pattern3 .ensures)
+    (three-stores (args .list .now) (args .at) (ofBits binary64 (args .r .a)) (ofBits binary64 (args .r .b))
+    (ofBits binary64 (args .r .c)))
+
 pub put-point-spec : {M : Type 1} → statement M
 put-point-spec =
     tie.close
     (tie.spec
-    (λ c κs. search needs)
+    (λ c κs. search needs) (λ c. search needs) (λ c. search needs) (λ c κs. search needs) (λ c. search needs) (λ c. search needs)
+    slice-write-list-2
+    (λ c κs. search needs) (λ c. search needs) (λ c. search needs)
+    slice-write-list-3
     (λ c. search needs)
-    (λ c. search needs)
-    (λ c κs. search needs)
-    (λ c. search needs)
-    (λ c. search needs)
-    (λ c. simp length-set (omega arith))
-    (λ c κs. search needs)
-    (λ c. search needs)
-    (λ c. search needs)
-    (λ c. simp length-set (omega arith))
-    (λ c. search needs)
-    (λ c. rw (c .before .before .of-pattern .ensures, c .before .of-pattern2 .ensures, c .of-pattern3 .ensures) (let a = c .before .before .before .before .args in three-stores (a .list .now) (a .at) (ofBits binary64 (a .r .a)) (ofBits binary64 (a .r .b)) (ofBits binary64 (a .r .c)))))
+    returns)

@@ -1,28 +1,101 @@
+-- `report::block::take_block` meets its contract: after k turns the tally, the lists and the lines are those of the first k records,
+-- and after the last turn those of all of them.
 use mathlib.Core.Path.{_≡_, _∙_}
 use Prim.Native.Nat.{_/_, _-_}
 use native.Mathlib.Omega.{arith}
 use lib.ListN.{length}
 use Rattle.report.specs.Report.{heldOf, lentOf}
-use Rattle.report.proofs.Taken.{Goes, goes-start, after-step, stored-step, lines-step}
+use Rattle.report.proofs.Taken.{still-sized, Goes, goes-start, after-step, stored-step, lines-step}
+use borrow.Author.Needs.{needs}
 use Rattle.report.proofs.block.take_block.Statement.{statement}
 use Rattle.report.proofs.block.take_block.Tie as tie
+
+abbrev Inv-loop : tie.InvT-loop
+Inv-loop s coords₀ corners₀ ends₀ queries₀ out₀ n t₀ made₀ k₀ coords corners ends queries out t made k =
+    Goes s coords₀ corners₀ ends₀ queries₀ out₀ n t₀ coords corners ends queries out t made k
+
+abbrev μ-loop : tie.MeasureT-loop
+μ-loop s coords₀ corners₀ ends₀ queries₀ out₀ n t₀ made₀ k₀ coords corners ends queries out t made k = n - k
+
+-- where a turn stands, and where the function starts, told from the nearest place
+abbrev turning : tie.After-read-record Inv-loop μ-loop → tie.In-loop Inv-loop μ-loop
+turning c = search
+
+abbrev begun : tie.In-loop Inv-loop μ-loop → tie.Start Inv-loop μ-loop
+begun c = search
+
+loop-holds : tie.Need-loop-holds Inv-loop μ-loop
+loop-holds c =
+    let start : tie.Start Inv-loop μ-loop = search in
+    let args = start .args in
+    goes-start (args .s .now) (args .coords .now) (args .corners .now) (args .ends .now) (args .queries .now) (args .out .now)
+    (length (args .s .now) / 32) (args .start) (start .pre .1 .0)
+
+take-record-requires : tie.Need-take-record-requires Inv-loop μ-loop
+take-record-requires c κs =
+    let record { before = _; loop = loop } : tie.At-loop Inv-loop μ-loop = search in
+    let record { before = _; loop-test = more } : tie.In-loop Inv-loop μ-loop = search in
+    let start : tie.Start Inv-loop μ-loop = search in
+    let pre = start .pre in
+    let i = loop .inv in
+    let sized = still-sized (pre .0) (i .for-a) (i .for-b) (i .for-c) (i .for-d) in
+    (sized, (i .fits, (omega (arith, i .number, pre .1 .1, more .taken), omega (arith, i .room, i .for-o, pre .1 .1, more .taken))))
+
+add-k : tie.Need-add-k Inv-loop μ-loop
+add-k c =
+    let turn : tie.In-loop Inv-loop μ-loop = search in
+    omega (arith, begun turn .pre .1 .1, turn .loop-test .taken)
+
+loop-again : tie.Need-loop-again Inv-loop μ-loop
+loop-again c =
+    let record { before = _; take-record = taken } : tie.After-take-record Inv-loop μ-loop = search in
+    let read : tie.After-read-record Inv-loop μ-loop = search in
+    let turn = turning read in
+    let loop = turn .before .loop in
+    let args = begun turn .args in
+    let first = heldOf (args .start) (args .coords .now) (args .corners .now) (args .ends .now) (args .queries .now) in
+    let lists = lentOf (args .coords .now) (args .corners .now) (args .ends .now) (args .queries .now) in
+    let i = loop .inv in
+    let r = read .read-record .ensures in
+    let done = taken .ensures in
+    let bounds = done .1 .1 .1 in
+    let kept = taken .kept .1 .1 in
+    record {
+      bound = omega (arith, turn .loop-test .taken);
+      held = after-step first (args .s .now) (loop .k) (i .held) r (done .0);
+      put = lines-step first (args .s .now) (loop .k) (i .held) r (i .put) (done .1 .1 .0);
+      lent = stored-step first lists (args .s .now) (loop .k) (i .held) (i .lent) r (done .1 .0);
+      for-a = kept .0 ∙ i .for-a;
+      for-b = kept .1 .0 ∙ i .for-b;
+      for-c = kept .1 .1 .0 ∙ i .for-c;
+      for-d = kept .1 .1 .1 .0 ∙ i .for-d;
+      for-o = kept .1 .1 .1 .1 .0 ∙ i .for-o;
+      fits = bounds .0;
+      number = omega (arith, bounds .1, i .number);
+      room = omega (arith, bounds .2, i .room);
+    }
+
+returns : tie.Need-returns Inv-loop μ-loop
+returns c =
+    let loop = c .before .loop in
+    let start : tie.Start Inv-loop μ-loop = search in
+    let i = loop .inv in
+    let e : loop .k ≡ length (start .args .s .now) / 32 = omega (arith, c .loop-test .left, i .bound) in (
+      rw e at (i .held),
+      (rw e at (i .lent), (rw e at (i .put), (i .fits, omega (arith, i .number), omega (arith, i .room, start .pre .1 .1 .1)))),
+    )
 
 pub take-block-spec : {M : Type 1} → statement M
 take-block-spec =
     tie.close
     (tie.spec
-    (λ s coords₀ corners₀ ends₀ queries₀ out₀ n t₀ made₀ k₀ coords corners ends queries out t made k. Goes s coords₀ corners₀ ends₀ queries₀ out₀ n t₀ coords corners ends queries out t made k)
-    (λ s coords₀ corners₀ ends₀ queries₀ out₀ n t₀ made₀ k₀ coords corners ends queries out t made k. n - k)
-    (λ c. let a = c .before .before .before .before .before .before .args in goes-start (a .s .now) (a .coords .now) (a .corners .now) (a .ends .now) (a .queries .now) (a .out .now) (length (a .s .now) / 32) (a .start) (c .before .before .before .before .before .before .pre .1 .0))
-    (λ c. omega arith)
-    (λ c κs. omega arith)
-    (λ c κs. let i = c .before .before .before .before .before .before .before .loop .inv in let p = c .before .before .before .before .before .before .before .before .before .before .before .before .before .before .pre in (record { for-coords = omega (arith, i .for-a, p .0 .for-coords); for-corners = omega (arith, i .for-b, p .0 .for-corners); for-ends = omega (arith, i .for-c, p .0 .for-ends); for-queries = omega (arith, i .for-d, p .0 .for-queries) }, (i .fits, (omega (arith, i .number, p .1 .1, c .before .before .before .before .before .before .loop-test .taken), omega (arith, i .room, i .for-o, p .1 .1, c .before .before .before .before .before .before .loop-test .taken)))))
-    (λ c. omega (arith, c .before .before .before .before .before .before .before .before .before .before .before .before .before .before .before .before .before .before .before .before .before .before .before .before .before .before .pre .1 .1, c .before .before .before .before .before .before .before .before .before .before .before .before .before .before .before .before .before .before .loop-test .taken))
-    (λ c. omega arith)
-    (λ c. let a = c .before .before .before .before .before .before .before .before .before .before .before .before .before .before .before .before .before .before .before .before .before .before .before .before .before .before .args in let l = c .before .before .before .before .before .before .before .before .before .before .before .before .before .before .before .before .before .before .before .loop in let i = l .inv in let O = c .before .before .before .before .before .before .before .before .before .before .before .take-record in let r = c .before .before .before .before .before .before .before .before .before .before .before .before .before .before .before .before .before .read-record .ensures in let w = O .ensures .1 .1 .1 in record { bound = omega (arith, c .before .before .before .before .before .before .before .before .before .before .before .before .before .before .before .before .before .before .loop-test .taken); held = after-step (heldOf (a .start) (a .coords .now) (a .corners .now) (a .ends .now) (a .queries .now)) (a .s .now) (l .k) (i .held) r (O .ensures .0); put = lines-step (heldOf (a .start) (a .coords .now) (a .corners .now) (a .ends .now) (a .queries .now)) (a .s .now) (l .k) (i .held) r (i .put) (O .ensures .1 .1 .0); lent = stored-step (heldOf (a .start) (a .coords .now) (a .corners .now) (a .ends .now) (a .queries .now)) (lentOf (a .coords .now) (a .corners .now) (a .ends .now) (a .queries .now)) (a .s .now) (l .k) (i .held) (i .lent) r (O .ensures .1 .0); for-a = O .kept .1 .1 .0 ∙ i .for-a; for-b = O .kept .1 .1 .1 .0 ∙ i .for-b; for-c = O .kept .1 .1 .1 .1 .0 ∙ i .for-c; for-d = O .kept .1 .1 .1 .1 .1 .0 ∙ i .for-d; for-o = O .kept .1 .1 .1 .1 .1 .1 .0 ∙ i .for-o; fits = w .0; number = omega (arith, w .1, i .number); room = omega (arith, w .2, i .room) })
-    (λ c. c .before .loop .inv .for-a)
-    (λ c. c .before .loop .inv .for-b)
-    (λ c. c .before .loop .inv .for-c)
-    (λ c. c .before .loop .inv .for-d)
-    (λ c. c .before .loop .inv .for-o)
-    (λ c. let a = c .before .before .before .before .before .before .before .before .args in let l = c .before .loop in let i = l .inv in let e : l .k ≡ length (a .s .now) / 32 = omega (arith, c .loop-test .left, i .bound) in (rw e at (i .held), (rw e at (i .lent), (rw e at (i .put), (i .fits, omega (arith, i .number), omega (arith, i .room, c .before .before .before .before .before .before .before .before .pre .1 .1 .1)))))))
+    Inv-loop
+    μ-loop
+    loop-holds
+    (λ c. search needs) (λ c κs. search needs)
+    take-record-requires
+    add-k
+    (λ c. search needs)
+    loop-again
+    (λ c. search needs) (λ c. search needs) (λ c. search needs) (λ c. search needs) (λ c. search needs)
+    returns)

@@ -39,16 +39,8 @@ returns c =
     let size : length (take (args .total) (args .block .now)) ≡ args .total = length-take-le (args .total) (args .block .now) small in
     let room = done .1 .1 .1 in
     let waits = moved-rest (args .block .now) (args .total) small (moved .ensures) in
-    let goes = feeds (done .0) waits (put-front (done .1 .1 .0) (room .2)) in (
-      rw size at (done .0),
-      (
-        rw size at (done .1 .0),
-        (
-          rw size at (done .1 .1 .0),
-          ((refl, moved .ensures), ((room .0, rw size at (room .1), room .2), goes)),
-        ),
-      ),
-    )
+    let goes = feeds (done .0) waits (put-front (done .1 .1 .0) (room .2)) in
+    (done .0, (done .1 .0, (done .1 .1 .0, ((refl, moved .ensures), ((room .0, rw size at (room .1), room .2), goes)))))
 
 pub feed-spec : {M : Type 1} → statement M
 feed-spec =

@@ -1,5 +1,5 @@
 -- `report::stream::finish` meets its contract: in each branch what is put is the tail, and the tail makes the report whole.
-use mathlib.Core.Path.{refl}
+use mathlib.Core.Path.{_≡_, refl}
 use mathlib.Core.List.{[]}
 use native.Mathlib.Omega.{arith}
 use borrow.Author.Tests.{eq-eqb, ne-eqb}
@@ -15,7 +15,8 @@ returns c =
     let start : tie.Start = search in
     let args = start .args in
     let at : tie.Then1 = search in
-    let put = c .before .before .put-tail .ensures in
+    let record { before = _; put-tail = tail } : tie.After-put-tail = search in
+    let put = tail .ensures in
     finished (args .t) (args .have) (rw (at .if1 .taken)) put (omega (arith, put .ends))
 
 returns-2 : tie.Need-returns-2
@@ -23,8 +24,8 @@ returns-2 c =
     let start : tie.Start = search in
     let args = start .args in
     let at : tie.Else1 = search in
-    finished {xs = []} (args .t) (args .have) (rw (at .if1 .left, eq-eqb _ _ (c .if2 .taken)))
-    (record { holds = refl; ends = refl }) (omega arith)
+    let none : args .have ≡ 0 = omega arith in
+    finished {xs = []} (args .t) (args .have) (rw (at .if1 .left, eq-eqb _ _ none)) (record { holds = refl; ends = refl }) (omega arith)
 
 returns-3 : tie.Need-returns-3
 unfolding tailLine
@@ -33,7 +34,8 @@ returns-3 c =
     let args = start .args in
     let at : tie.Else1 = search in
     let other : tie.Else2 = search in
-    let put = c .before .before .put-tail2 .ensures in
+    let record { before = _; put-tail2 = tail } : tie.After-put-tail2 = search in
+    let put = tail .ensures in
     finished (args .t) (args .have) (rw (at .if1 .left, ne-eqb _ _ (other .if2 .left))) put (omega (arith, put .ends))
 
 pub finish-spec : {M : Type 1} → statement M

@@ -1,3 +1,4 @@
+-- `stored_answers::text::read` meets its contract: the loop goes on only while a word more has room, and a byte finishes at most one word.
 use mathlib.Core.Path.{_≡_}
 use borrow.Author.Tests.{ltb-true}
 use native.Mathlib.Omega.{arith}
@@ -7,18 +8,39 @@ use borrow.Author.Needs.{needs}
 use Rattle.stored_answers.proofs.text.read.Statement.{statement}
 use Rattle.stored_answers.proofs.text.read.Tie as tie
 
+abbrev Inv-loop : tie.InvT-loop
+Inv-loop line out₀ n m r₀ i₀ out r i = (n ≡ length line) × (m ≡ length out₀) × (length out ≡ length out₀) × (r .count ≤ m)
+
+abbrev μ-loop : tie.MeasureT-loop
+μ-loop line out₀ n m r₀ i₀ out r i = n - i
+
+take-requires : tie.Need-take-requires Inv-loop μ-loop
+take-requires c κs =
+    let record { before = _; if1 = if1 } : tie.Then1 Inv-loop μ-loop = search in
+    let record { before = _; loop = loop } : tie.At-loop Inv-loop μ-loop = search in
+    let start : tie.Start Inv-loop μ-loop = search in
+    omega (arith, ltb-true (loop .r .count) (length (start .args .out .now)) (if1 .taken), loop .inv .1, loop .inv .2)
+
+loop-again : tie.Need-loop-again Inv-loop μ-loop
+loop-again c =
+    let record { before = _; take = take } : tie.After-take Inv-loop μ-loop = search in
+    let record { before = _; if1 = if1 } : tie.Then1 Inv-loop μ-loop = search in
+    let record { before = _; loop = loop } : tie.At-loop Inv-loop μ-loop = search in
+    let start : tie.Start Inv-loop μ-loop = search in (
+      loop .inv .0,
+      loop .inv .1,
+      search needs,
+      omega (arith, ltb-true (loop .r .count) (length (start .args .out .now)) (if1 .taken), take .ensures),
+    )
+
 pub read-spec : {M : Type 1} → statement M
 read-spec =
     tie.close
     (tie.spec
-    (λ line out₀ n m r₀ i₀ out r i. (n ≡ length line) × (m ≡ length out₀) × (length out ≡ length out₀) × (r .count ≤ m))
-    (λ line out₀ n m r₀ i₀ out r i. n - i)
-    (λ c. search needs)
-    (λ c. search needs)
-    (λ c κs. omega (arith, ltb-true (c .before .before .before .before .before .loop .r .count) (length (c .before .before .before .before .before .before .before .before .args .out .now)) (c .before .before .if1 .taken), c .before .before .before .before .before .loop .inv .1, c .before .before .before .before .before .loop .inv .2))
-    (λ c. search needs)
-    (λ c. search needs)
-    (λ c. (c .before .before .before .before .before .before .before .before .loop .inv .0, c .before .before .before .before .before .before .before .before .loop .inv .1, search needs, omega (arith, ltb-true (c .before .before .before .before .before .before .before .before .loop .r .count) (length (c .before .before .before .before .before .before .before .before .before .before .before .args .out .now)) (c .before .before .before .before .before .if1 .taken), c .before .before .take .ensures)))
-    (λ c κs. search needs)
-    (λ c. search needs)
-    (λ c. search needs))
+    Inv-loop
+    μ-loop
+    (λ c. search needs) (λ c. search needs)
+    take-requires
+    (λ c. search needs) (λ c. search needs)
+    loop-again
+    (λ c κs. search needs) (λ c. search needs) (λ c. search needs))

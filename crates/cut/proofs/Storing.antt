@@ -1,0 +1,35 @@
+-- A loop that stores an element at each place of a lent list: the list keeps its length, and what is left to store makes the whole.
+-- And the lists that a face is cut in: the first places of two arrays.
+use mathlib.Core.Path.{_≡_, refl, sym}
+use mathlib.Core.List.{List, [], _∷_}
+use Prim.Native.Nat.{ℕ, _+_, _-_, _<_, _≤_}
+use native.Mathlib.Omega.{arith}
+use lib.ListN.{length, getD, set, take, replicate, length-set}
+use Rattle.places.specs.Steps.{removed}
+use Rattle.places.proofs.Folding.{Folding, fold-next, fold-end}
+use Rattle.places.proofs.Lists.{shift-removed, first-of}
+use Rattle.floats.specs.F64.{zero64}
+
+-- m places are in the list l; storing f at each place from i on, up to place n, makes it the whole
+pub record Storing {A : Type 0} (f : ℕ → List A → A) (n m : ℕ) (whole : List A) (i : ℕ) (l : List A) : Type 0 where
+  pub long : length l ≡ m
+  pub folding : Folding (λ k s. set s k (f k s)) n whole i l
+
+module _ {A : Type 0} {f : ℕ → List A → A} {n m : ℕ} {whole : List A} {i : ℕ} {l : List A} (q : Storing f n m whole i l) where
+  pub store-next : {l′ : List A} → i < n → l′ ≡ set l i (f i l) → Storing f n m whole (i + 1) l′
+  store-next h e = record { long = rw (e, length-set l i (f i l)) (q .long); folding = fold-next (q .folding) h e }
+
+  pub store-end : n ≤ i → l ≡ whole
+  store-end h = fold-end (q .folding) h
+
+-- what stands at place k goes: each place from j on, up to the last, gets what stands one place further right
+abbrev pub Removing : {A : Type 0} → A → List A → ℕ → ℕ → List A → Type 0
+Removing d l₀ k j l = Storing (λ i s. getD s (i + 1) d) (length l₀ - 1) (length l₀) (removed k l₀) j l
+
+pub remove-start : {A : Type 0} (d : A) (l : List A) (k : ℕ) → k < length l → Removing d l k k l
+remove-start d l k h = record { long = refl; folding = record { within = omega arith; so = shift-removed d k l h } }
+
+-- the first n places of an array of k numbers and of one of k points
+pub lent : (n k : ℕ) → n ≤ k
+    → (length {A = ℕ} (take n (replicate k 0)) ≡ n) × (length (take n (replicate k (zero64 ∷ zero64 ∷ []))) ≡ n)
+lent n k h = (sym (first-of n k 0 h), sym (first-of n k (zero64 ∷ zero64 ∷ []) h))

@@ -2,9 +2,10 @@
 ghost use mathlib.Core.Path.{_≡_};
 ghost use mathlib.Core.List.{[], _∷_};
 ghost use Rattle.places.specs.Lent.{old, new};
+ghost use Rattle.places.specs.Loops.{oneIf};
 ghost use Rattle.geometry.specs.Leaves.{verticesOf, tetVolumeOfList, wedgeVolumeOf, hexVolumeOf, tetContainsOf, wedgeContainsOf};
 ghost use Rattle.geometry.specs.Leaves.{hexContainsOf};
-ghost use Rattle.geometry.specs.Listed.{told, written, values, one, ofShape};
+ghost use Rattle.geometry.specs.Listed.{told, written, values, ofShape};
 
 #[no_mangle]
 pub extern "C" fn wegrusamt_tet_volume(p: &[f64], out: &mut [f64]) -> u8
@@ -48,13 +49,13 @@ pub extern "C" fn wegrusamt_hex_volume(p: &[f64], out: &mut [f64]) -> u8
 #[no_mangle]
 pub extern "C" fn wegrusamt_tet_contains(p: &[f64], x: f64, y: f64, z: f64, out: &mut [usize]) -> u8
     ensures { λ r. ⌜ told r [] (new out) ≡ written (ofShape 12 (old p)
-        (values [] (one (tetContainsOf (x ∷ y ∷ z ∷ []) (verticesOf (old p))) ∷ []))) [] (old out) ⌝ }
+        (values [] (oneIf (tetContainsOf (x ∷ y ∷ z ∷ []) (verticesOf (old p))) ∷ []))) [] (old out) ⌝ }
 {
     if p.len() != 12 {
         return 1;
     }
     let inside = geometry::fixed::tet_contains([x, y, z], answer_lists::given::four(p));
-    answer_lists::put_counts(&[answer_lists::one_if(inside)], out)
+    answer_lists::put_counts(&[places::one_if(inside)], out)
 }
 
 #[no_mangle]
@@ -66,23 +67,23 @@ pub extern "C" fn wegrusamt_wedge_contains(
     out: &mut [usize],
 ) -> u8
     ensures { λ r. ⌜ told r [] (new out) ≡ written (ofShape 18 (old p)
-        (values [] (one (wedgeContainsOf (x ∷ y ∷ z ∷ []) (verticesOf (old p))) ∷ []))) [] (old out) ⌝ }
+        (values [] (oneIf (wedgeContainsOf (x ∷ y ∷ z ∷ []) (verticesOf (old p))) ∷ []))) [] (old out) ⌝ }
 {
     if p.len() != 18 {
         return 1;
     }
     let inside = geometry::fixed::wedge_contains([x, y, z], answer_lists::given::six(p));
-    answer_lists::put_counts(&[answer_lists::one_if(inside)], out)
+    answer_lists::put_counts(&[places::one_if(inside)], out)
 }
 
 #[no_mangle]
 pub extern "C" fn wegrusamt_hex_contains(p: &[f64], x: f64, y: f64, z: f64, out: &mut [usize]) -> u8
     ensures { λ r. ⌜ told r [] (new out) ≡ written (ofShape 24 (old p)
-        (values [] (one (hexContainsOf (x ∷ y ∷ z ∷ []) (verticesOf (old p))) ∷ []))) [] (old out) ⌝ }
+        (values [] (oneIf (hexContainsOf (x ∷ y ∷ z ∷ []) (verticesOf (old p))) ∷ []))) [] (old out) ⌝ }
 {
     if p.len() != 24 {
         return 1;
     }
     let inside = geometry::fixed::hex_contains([x, y, z], answer_lists::given::eight(p));
-    answer_lists::put_counts(&[answer_lists::one_if(inside)], out)
+    answer_lists::put_counts(&[places::one_if(inside)], out)
 }

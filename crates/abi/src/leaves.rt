@@ -3,10 +3,11 @@ ghost use mathlib.Core.Path.{_≡_};
 ghost use mathlib.Core.List.{[], _∷_};
 ghost use lib.Ieee.{binary64};
 ghost use Rattle.places.specs.Lent.{old, new};
+ghost use Rattle.places.specs.Loops.{oneIf};
 ghost use Rattle.geometry.specs.Leaves.{magnitudeOf, leastOf, largestOf, rootOf, lengthOf, toBits, ofBits};
 ghost use Rattle.geometry.specs.Leaves.{cross2Of, axisOf, project2Of, crossingOf, segmentPlaneOf};
 ghost use Rattle.geometry.specs.Leaves.{planeSameSideAnswer, planeCoplanarOppositeAnswer};
-ghost use Rattle.geometry.specs.Listed.{told, written, values, one};
+ghost use Rattle.geometry.specs.Listed.{told, written, values};
 
 #[no_mangle]
 pub extern "C" fn wegrusamt_magnitude(x: f64) -> f64
@@ -134,7 +135,7 @@ pub extern "C" fn wegrusamt_plane_same_side(
     bd: f64,
     tol: f64,
 ) -> u8
-    ensures { λ r. ⌜ r ≡ one (planeSameSideAnswer (record { n = ax ∷ ay ∷ az ∷ []; d = ad })
+    ensures { λ r. ⌜ r ≡ oneIf (planeSameSideAnswer (record { n = ax ∷ ay ∷ az ∷ []; d = ad })
         (record { n = bx ∷ by ∷ bz ∷ []; d = bd }) tol) ⌝ }
 {
     let a = geometry::Plane {
@@ -160,7 +161,7 @@ pub extern "C" fn wegrusamt_plane_coplanar_opposite(
     bd: f64,
     tol: f64,
 ) -> u8
-    ensures { λ r. ⌜ r ≡ one (planeCoplanarOppositeAnswer (record { n = ax ∷ ay ∷ az ∷ []; d = ad })
+    ensures { λ r. ⌜ r ≡ oneIf (planeCoplanarOppositeAnswer (record { n = ax ∷ ay ∷ az ∷ []; d = ad })
         (record { n = bx ∷ by ∷ bz ∷ []; d = bd }) tol) ⌝ }
 {
     let a = geometry::Plane {

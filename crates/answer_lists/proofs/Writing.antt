@@ -10,7 +10,6 @@ use lib.ListN.{length, getD, set, take, drop, length-append, length-drop}
 use lib.Seq.{take-suc, drop-cons, set-at, take-all, length-take-le}
 use lib.Ieee.{Float}
 use borrow.Author.Tests.{lt-ltb, le-ltb}
-use Rattle.places.specs.Loops.{pick}
 use Rattle.geometry.specs.declared.Clipped.{Clipped}
 use Rattle.geometry.specs.Listed.{values, Reply, told, front, tooShort, written, ofClipped, hidden, clippingTold}
 

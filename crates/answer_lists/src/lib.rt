@@ -5,21 +5,15 @@ pub mod shown;
 ghost use mathlib.Core.Path.{_≡_};
 ghost use mathlib.Core.List.{[], _∷_};
 ghost use Rattle.places.specs.Lent.{old, new};
+ghost use Rattle.places.specs.Loops.{oneIf};
 ghost use Rattle.geometry.specs.declared.Surveyed.{Surveyed};
 ghost use Rattle.geometry.specs.declared.Described.{Described};
-ghost use Rattle.geometry.specs.Listed.{told, Listed, values, written, one, shapeNumber, ofNumber, ofTruth, ofCount, ofPlace, ofPlanePlace};
+ghost use Rattle.geometry.specs.Listed.{told, Listed, values, written, shapeNumber, ofNumber, ofTruth, ofCount, ofPlace, ofPlanePlace};
 ghost use Rattle.geometry.specs.Listed.{ofExtent, ofPlaneExtent, ofDone, ofSurveyed, ofDescribed, ofFacePlane, ofClipped, codeWithoutRoom};
 
-// 1 for yes, 0 for no.
-pub fn one_if(b: bool) -> usize
-    ensures { λ r. ⌜ r ≡ one b ⌝ }
-{
-    if b { 1 } else { 0 }
-}
-
-// The same as a byte, which a function answers.
+// 1 for yes, 0 for no, as a byte, which a function answers.
 pub fn bit(b: bool) -> u8
-    ensures { λ r. ⌜ r ≡ one b ⌝ }
+    ensures { λ r. ⌜ r ≡ oneIf b ⌝ }
 {
     if b { 1 } else { 0 }
 }
@@ -71,7 +65,7 @@ pub fn put_truth(a: geometry::Truth, out: &mut [usize]) -> u8
     ensures { λ r. ⌜ told r [] (new out) ≡ written (ofTruth a) [] (old out) ⌝ }
 {
     match a {
-        geometry::Truth::Is(b) => put_counts(&[one_if(b)], out),
+        geometry::Truth::Is(b) => put_counts(&[places::one_if(b)], out),
         geometry::Truth::Refused(why) => why,
     }
 }
@@ -160,7 +154,7 @@ fn put_survey(s: geometry::Findings, counts: &mut [usize], volume: &mut [f64]) -
         return 6;
     }
     let code = put_counts(
-        &[s.triangles, one_if(s.closed), s.short, s.contained],
+        &[s.triangles, places::one_if(s.closed), s.short, s.contained],
         counts,
     );
     if code != 0 {
@@ -216,7 +210,10 @@ pub fn put_clipped(a: geometry::Clipped, out: &mut [usize]) -> u8
 {
     match a {
         geometry::Clipped::Nothing => put_counts(&[0, 0], out),
-        geometry::Clipped::Outline(n, in_second) => put_counts(&[n, one_if(in_second)], out),
+        geometry::Clipped::Outline(n, in_second) => put_counts(
+            &[n, places::one_if(in_second)],
+            out,
+        ),
         geometry::Clipped::Refused(why) => why,
     }
 }

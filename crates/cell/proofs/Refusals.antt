@@ -1,7 +1,7 @@
 -- The rows of a refusal table one after the other, for every function that answers with one; and what is known of a cell that no row
 -- refuses, for everybody who is given such a cell.
 use mathlib.Core.Path.{_≡_, refl, sym}
-use mathlib.Core.Bool.{Bool, true, false, not, _||_}
+use mathlib.Core.Bool.{Bool, true, false, not, _||_, cond}
 use mathlib.Core.List.{List, [], _∷_}
 use Prim.Native.Nat.{ℕ, zero, suc, _-_, _<_, _≤_, _/_, _%_}
 use native.Mathlib.Omega.{arith}
@@ -10,7 +10,7 @@ use lib.ListN.{length, getD}
 use lib.Seq.{slice, slice-empty, length-slice}
 use lib.Ieee.{Float, nan}
 use borrow.Author.Tests.{ltb-true, ltb-false, leb-false, eqb-true, eqb-false, not-false, ne-eqb, lt-ltb, le-ltb}
-use Rattle.places.specs.Loops.{pick, anyOf}
+use Rattle.places.specs.Loops.{anyOf}
 use Rattle.places.specs.Lists.{Each}
 use Rattle.places.proofs.Stored.{length-threes}
 use Rattle.flat.specs.Points.{verticesOf}
@@ -47,11 +47,11 @@ or-none true b e = (e, cc)
 or-none false b e = (refl, e)
 
 -- ---- where the test holds of none, it fails at each place
-any-step : {A : Type 0} (test : A → Bool) (x : A) (l : List A) → pick (test x) true (anyOf test l) ≡ false
+any-step : {A : Type 0} (test : A → Bool) (x : A) (l : List A) → cond (test x) true (anyOf test l) ≡ false
     → (test x ≡ false) × (anyOf test l ≡ false)
 any-step test x l e = go (test x) e
   where
-    go : (b : Bool) → pick b true (anyOf test l) ≡ false → (b ≡ false) × (anyOf test l ≡ false)
+    go : (b : Bool) → cond b true (anyOf test l) ≡ false → (b ≡ false) × (anyOf test l ≡ false)
     go true e = (e, cc)
     go false e = (refl, e)
 

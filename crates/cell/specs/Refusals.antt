@@ -1,12 +1,12 @@
 -- What is refused, as document 01's table has it: a number and what it is refused for, and the first row that applies decides.
-use mathlib.Core.Bool.{Bool, not, _&&_, _||_}
+use mathlib.Core.Bool.{Bool, not, _&&_, _||_, cond}
 use mathlib.Core.List.{List, [], _∷_}
 use Prim.Native.Nat.{ℕ, _%_}
 use lib.Dec.{leb, ltb, eqb}
 use lib.ListN.{length}
 use lib.Ieee.{Float, binary64, ofBits, le, neg}
 use Rattle.places.specs.Limits.{mostVertices, mostFaces, mostCorners}
-use Rattle.places.specs.Loops.{pick, anyOf}
+use Rattle.places.specs.Loops.{anyOf}
 use Rattle.flat.specs.Points.{verticesOf}
 use Rattle.cell.specs.Faces.{facesOf, rises}
 
@@ -15,7 +15,7 @@ unfoldable pub firstRow : List (ℕ × Bool) → ℕ
 firstRow [] = 0
 firstRow (row ∷ rows) =
     let rest = firstRow rows in
-    pick (row .1) (row .0) rest
+    cond (row .1) (row .0) rest
 
 -- 2 ^ 40, the largest magnitude
 abbrev pub limit : Float

@@ -1,14 +1,14 @@
 -- What a cut leaves: a stretch was laid down, and its points without the doubled ones stand at its front.
 -- And what a plane makes of an outline, by how many of its points are out.
 use mathlib.Core.Path.{_≡_, refl, ap, _∙_}
-use mathlib.Core.Bool.{Bool, true, false}
+use mathlib.Core.Bool.{Bool, true, false, cond}
 use mathlib.Core.List.{List, _++_}
 use Prim.Native.Nat.{ℕ, _+_, _*_, _<_, _≤_}
 use native.Mathlib.Omega.{arith}
 use lib.ListN.{length, take, drop, length-take}
 use lib.Seq.{take-append-le, length-take-le}
 use lib.Ieee.{Float}
-use Rattle.places.specs.Loops.{pick, countOf}
+use Rattle.places.specs.Loops.{countOf}
 use borrow.Author.Tests.{lt-ltb, le-ltb, eq-eqb, ne-eqb}
 use Rattle.places.specs.Stored.{inThrees}
 use Rattle.places.proofs.Stored.{length-threes, threes-take, threes-front}
@@ -51,22 +51,22 @@ module _ {room m left : ℕ} {cut before : List Point} (after front : List Float
 
 -- ---- an outline of n points in the first list or in the second
 pub shown-is : (second : Bool) (n : ℕ) (a b : List Float)
-    → inThrees (take (n * 3) (pick second b a)) ≡ take n (pick second (inThrees b) (inThrees a))
+    → inThrees (take (n * 3) (cond second b a)) ≡ take n (cond second (inThrees b) (inThrees a))
 shown-is true n a b = threes-take n b
 shown-is false n a b = threes-take n a
 
 pub stretch-fits : (second : Bool) (n : ℕ) (a b : List Float) → n ≤ length (inThrees a) → n ≤ length (inThrees b)
-    → n * 3 ≤ length (pick second b a)
+    → n * 3 ≤ length (cond second b a)
 stretch-fits true n a b h g = omega (arith, length-threes b)
 stretch-fits false n a b h g = omega (arith, length-threes a)
 
-outline-length : (second : Bool) (n : ℕ) (a b : List Point) → n ≤ length a → n ≤ length b → length (take n (pick second b a)) ≡ n
+outline-length : (second : Bool) (n : ℕ) (a b : List Point) → n ≤ length a → n ≤ length b → length (take n (cond second b a)) ≡ n
 outline-length true n a b h g = length-take-le n b g
 outline-length false n a b h g = length-take-le n a h
 
 module _ {room n : ℕ} (eps : Float) {plane : Plane} {second : Bool} {a b : List Point} (h : n ≤ length a) (g : n ≤ length b) where
   -- neither list is written to where the plane makes no cut
-  still : {r : Step} → Shows room (planeChange room eps plane (take n (pick second b a))) r (pick second a b)
+  still : {r : Step} → Shows room (planeChange room eps plane (take n (cond second b a))) r (cond second a b)
       → Moved room (planeChange room eps) plane n second a b r a b
   still s = record { shows = s; same = refl; long = refl }
 
@@ -74,7 +74,7 @@ module _ {room n : ℕ} (eps : Float) {plane : Plane} {second : Bool} {a b : Lis
   unfolding planeChange
   none-few l = still (rw (outline-length second n a b h g, lt-ltb n 3 l) shows-gone)
 
-  module _ {out : ℕ} (l : 3 ≤ n) (e : out ≡ countOf (beyond plane eps) (take n (pick second b a))) where
+  module _ {out : ℕ} (l : 3 ≤ n) (e : out ≡ countOf (beyond plane eps) (take n (cond second b a))) where
     pub none-out : out ≡ 0 → Moved room (planeChange room eps) plane n second a b Kept a b
     unfolding planeChange
     none-out z = still (rw (outline-length second n a b h g, le-ltb n 3 l, ← e, eq-eqb out 0 z) shows-whole)

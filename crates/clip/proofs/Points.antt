@@ -1,12 +1,12 @@
 -- A clipping of an outline that has points never ends with an outline of 0 points: a plane that cuts leaves at least 3.
-use mathlib.Core.Bool.{Bool, true, false}
+use mathlib.Core.Bool.{Bool, true, false, cond}
 use mathlib.Core.List.{List, [], _∷_}
 use Prim.Native.Nat.{ℕ, _<_}
 use native.Mathlib.Omega.{arith}
 use lib.Dec.{ltb, eqb}
 use lib.ListN.{length}
 use lib.Ieee.{Float}
-use Rattle.places.specs.Loops.{pick, countOf}
+use Rattle.places.specs.Loops.{countOf}
 use Rattle.flat.specs.Points.{Point}
 use Rattle.planes.specs.declared.Plane.{Plane}
 use Rattle.work_lists.specs.WorkLists.{Change, whole, gone, full, made, Outcome, nothing, noRoom, outline, leftBy, runOf, clippedOf}
@@ -27,16 +27,16 @@ pub data LeftPoints : Outcome → Type 0 where
   left-some : {second : Bool} {ps : List Point} → 0 < length ps → LeftPoints (outline second ps)
 
 -- a test between two
-made-either : (b : Bool) {c d : Change} → MadePoints c → MadePoints d → MadePoints (pick b c d)
+made-either : (b : Bool) {c d : Change} → MadePoints c → MadePoints d → MadePoints (cond b c d)
 made-either true h g = h
 made-either false h g = g
 
-pub left-either : (b : Bool) {o q : Outcome} → LeftPoints o → LeftPoints q → LeftPoints (pick b o q)
+pub left-either : (b : Bool) {o q : Outcome} → LeftPoints o → LeftPoints q → LeftPoints (cond b o q)
 left-either true h g = h
 left-either false h g = g
 
 -- ---- one plane
-under-three : (ps : List Point) → MadePoints (pick (ltb (length ps) 3) gone (made ps))
+under-three : (ps : List Point) → MadePoints (cond (ltb (length ps) 3) gone (made ps))
 under-three [] = made-gone
 under-three (p ∷ ps) = made-either (ltb (length (p ∷ ps)) 3) made-gone (made-some (omega arith))
 

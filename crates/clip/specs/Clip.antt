@@ -1,11 +1,11 @@
 -- clip_face_by_polyhedron: an outline in space clipped by planes, one after the other.
 use Prim.Native.Nat.{ℕ}
-use mathlib.Core.Bool.{Bool}
+use mathlib.Core.Bool.{Bool, cond}
 use mathlib.Core.List.{List}
 use lib.ListN.{length}
 use lib.Dec.{ltb, eqb}
 use lib.Ieee.{Float, lt}
-use Rattle.places.specs.Loops.{pick, countOf}
+use Rattle.places.specs.Loops.{countOf}
 use Rattle.flat.specs.Points.{Point}
 use Rattle.planes.specs.declared.Plane.{Plane}
 use Rattle.planes.specs.Planes.{distanceOf}
@@ -21,7 +21,7 @@ beyond plane eps p = lt eps (distanceOf plane p)
 unfoldable pub cutChange : ℕ → List Point → Change
 cutChange room cut =
     let left = withoutDoubled cut in
-    pick (ltb room (length cut)) full (pick (ltb (length left) 3) gone (made left))
+    cond (ltb room (length cut)) full (cond (ltb (length left) 3) gone (made left))
 
 -- what a plane cuts an outline down to
 abbrev pub slice : ℕ → Float → Plane → List Point → Change
@@ -33,7 +33,7 @@ unfoldable pub planeChange : ℕ → Float → Plane → List Point → Change
 planeChange room eps plane ps =
     let out = countOf (beyond plane eps) ps in
     let cut = slice room eps plane ps in
-    pick (ltb (length ps) 3) gone (pick (eqb out 0) whole (pick (eqb out (length ps)) gone cut))
+    cond (ltb (length ps) 3) gone (cond (eqb out 0) whole (cond (eqb out (length ps)) gone cut))
 
 -- clip_face_by_polyhedron, with room for so many points in the shorter work list
 unfoldable pub clipFaceOf : ℕ → Float → List Plane → List Point → Outcome

@@ -8,7 +8,7 @@ ghost use Prim.Native.Nat.{_<_, _≤_};
 ghost use lib.ListN.{length, take};
 ghost use Rattle.places.specs.Lent.{old, new};
 ghost use Rattle.places.specs.Limits.{mostCorners, mostWorkNumbers};
-ghost use Rattle.places.specs.Loops.{pick, countOf};
+ghost use Rattle.places.specs.Loops.{countOf};
 ghost use Rattle.flat.specs.Points.{verticesOf, cornersOf};
 ghost use Rattle.flat.specs.Steps.{Inside};
 ghost use Rattle.planes.specs.Planes.{inFours};

@@ -1,6 +1,6 @@
 -- Doubled points: the loop of space_out, which works in place, and what is left of a list when the last point goes.
 use mathlib.Core.Path.{_≡_, refl, sym, ap, _∙_}
-use mathlib.Core.Bool.{Bool, true, false, _&&_}
+use mathlib.Core.Bool.{Bool, true, false, _&&_, cond}
 use mathlib.Core.List.{List, [], _∷_, _++_}
 use Prim.Native.Nat.{ℕ, suc, _+_, _-_, _<_, _≤_, zero-le}
 use native.Mathlib.Nat.{not-suc-le-zero, add-zero}
@@ -10,7 +10,6 @@ use lib.Dec.{ltb}
 use borrow.Author.Tests.{lt-ltb, le-ltb}
 use lib.Seq.{drop-drop, drop-set-lt, getD-drop, take-length, take-take, length-take-le}
 use lib.Ieee.{Float, lt, le}
-use Rattle.places.specs.Loops.{pick}
 use Rattle.places.proofs.Loops.{drop-more}
 use Rattle.flat.specs.Points.{Point}
 use Rattle.work_lists.specs.Steps.{laidFrom, Filled}
@@ -73,7 +72,7 @@ spaced-from-few eps last [] = zero-le
 spaced-from-few eps last (p ∷ ps) = go (lt eps (dist3Of p last)) (spaced-from-few eps p ps) (spaced-from-few eps last ps)
   where
     go : (b : Bool) → length (spacedFrom eps p ps) ≤ length ps → length (spacedFrom eps last ps) ≤ length ps
-        → length (pick b (p ∷ spacedFrom eps p ps) (spacedFrom eps last ps)) ≤ suc (length ps)
+        → length (cond b (p ∷ spacedFrom eps p ps) (spacedFrom eps last ps)) ≤ suc (length ps)
     go true f g = omega arith
     go false f g = omega arith
 
@@ -89,13 +88,13 @@ opened-short eps ps h = rw (le-ltb 1 (length ps) (omega arith))
 
 pub opened-long : (eps : Float) (ps : List Point) {a b : Point} {near : Bool} → 2 ≤ length ps → a ≡ getD ps 0 []
     → b ≡ getD ps (length ps - 1) [] → near ≡ le (dist3Of a b) eps
-    → pick near (length ps - 1) (length ps) ≡ length (openedOf eps ps)
+    → cond near (length ps - 1) (length ps) ≡ length (openedOf eps ps)
 unfolding openedOf
 opened-long eps ps {near = near} h e f g =
     let is : le (dist3Of (getD ps 0 []) (getD ps (length ps - 1) [])) eps ≡ near = sym (rw (← e, ← f) g) in
     rw (lt-ltb 1 (length ps) (omega arith), is) (go near)
   where
-    go : (b : Bool) → pick b (length ps - 1) (length ps) ≡ length (pick b (take (length ps - 1) ps) ps)
+    go : (b : Bool) → cond b (length ps - 1) (length ps) ≡ length (cond b (take (length ps - 1) ps) ps)
     go true = sym (length-take-le (length ps - 1) ps (omega arith))
     go false = refl
 
@@ -104,7 +103,7 @@ opened-few : (eps : Float) (ps : List Point) → length (openedOf eps ps) ≤ le
 unfolding openedOf
 opened-few eps ps = go (ltb 1 (length ps) && le (dist3Of (getD ps 0 []) (getD ps (length ps - 1) [])) eps)
   where
-    go : (b : Bool) → length (pick b (take (length ps - 1) ps) ps) ≤ length ps
+    go : (b : Bool) → length (cond b (take (length ps - 1) ps) ps) ≤ length ps
     go true = omega (arith, length-take (length ps - 1) ps)
     go false = omega arith
 
@@ -112,7 +111,7 @@ opened-front : (eps : Float) (ps : List Point) → take (length (openedOf eps ps
 unfolding openedOf
 opened-front eps ps = go (ltb 1 (length ps) && le (dist3Of (getD ps 0 []) (getD ps (length ps - 1) [])) eps)
   where
-    go : (b : Bool) → take (length (pick b (take (length ps - 1) ps) ps)) ps ≡ pick b (take (length ps - 1) ps) ps
+    go : (b : Bool) → take (length (cond b (take (length ps - 1) ps) ps)) ps ≡ cond b (take (length ps - 1) ps) ps
     go true = ap (λ k. take k ps) (length-take-le (length ps - 1) ps (omega arith))
     go false = take-length ps
 

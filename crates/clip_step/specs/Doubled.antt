@@ -1,11 +1,11 @@
 -- remove_consecutive_duplicates: doubled points are dropped.
 use Prim.Native.Nat.{_-_}
-use mathlib.Core.Bool.{_&&_}
+use mathlib.Core.Bool.{_&&_, cond}
 use mathlib.Core.List.{List, [], _∷_}
 use lib.ListN.{length, getD, take}
 use lib.Dec.{ltb}
 use lib.Ieee.{Float, binary64, le, lt}
-use Rattle.places.specs.Loops.{pick, foldList}
+use Rattle.places.specs.Loops.{foldList}
 use Rattle.floats.specs.F64.{_+f_, _-f_, _*f_, zero64, epsilon64}
 use Rattle.floats.specs.Pick.{magnitudeOf, largestOf}
 use Rattle.floats.specs.Root.{rootOf}
@@ -37,7 +37,7 @@ spacedFrom eps last [] = []
 spacedFrom eps last (p ∷ ps) =
     let kept = p ∷ spacedFrom eps p ps in
     let dropped = spacedFrom eps last ps in
-    pick (lt eps (dist3Of p last)) kept dropped
+    cond (lt eps (dist3Of p last)) kept dropped
 
 -- the first point, and of the others those that are not doubled
 unfoldable pub spacedOf : Float → List Point → List Point
@@ -46,7 +46,7 @@ spacedOf eps (p ∷ ps) = p ∷ spacedFrom eps p ps
 
 -- the last point goes where it doubles the first
 unfoldable pub openedOf : Float → List Point → List Point
-openedOf eps ps = pick (ltb 1 (length ps) && le (dist3Of (getD ps 0 []) (getD ps (length ps - 1) [])) eps) (take (length ps - 1) ps) ps
+openedOf eps ps = cond (ltb 1 (length ps) && le (dist3Of (getD ps 0 []) (getD ps (length ps - 1) [])) eps) (take (length ps - 1) ps) ps
 
 -- the outline without doubled points
 unfoldable pub withoutDoubled : List Point → List Point

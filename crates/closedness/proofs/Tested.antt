@@ -1,11 +1,11 @@
 -- The test of the full table is that of the faces: its entries are how often their sides are run.
 use mathlib.Core.Path.{_≡_, refl, _∙_}
-use mathlib.Core.Bool.{Bool, true, false, not, _&&_}
+use mathlib.Core.Bool.{Bool, true, false, not, _&&_, cond}
 use mathlib.Core.List.{List, [], _∷_, _++_}
 use Prim.Native.Nat.{ℕ, _≤_}
 use lib.Dec.{eqb}
 use lib.ListN.{length, getD}
-use Rattle.places.specs.Loops.{pick, anyOf}
+use Rattle.places.specs.Loops.{anyOf}
 use Rattle.places.specs.Lists.{Each}
 use Rattle.places.specs.Ring.{sides}
 use Rattle.places.proofs.Lists.{each-head, each-tail}
@@ -28,7 +28,7 @@ every-same : {In : ℕ → Type 0} (p q : ℕ → ℕ → Bool) (l : List (ℕ �
 every-same p q [] b h = refl
 every-same p q (e ∷ l) b h = rw (h (e .0) (e .1) (each-head b .0) (each-head b .1), every-same p q l (each-tail b) h)
 
-not-pick : (b r : Bool) → not (pick b true r) ≡ not b && not r
+not-pick : (b r : Bool) → not (cond b true r) ≡ not b && not r
 not-pick true r = refl
 not-pick false r = refl
 

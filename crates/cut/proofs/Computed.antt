@@ -1,9 +1,9 @@
 -- A cut worked out: one name that opens every definition on the way to it, for whoever computes a row.
 use lib.Ieee.{ofInt, ofBits, add, sub, mul, neg, lt, le, eq}
-use Rattle.places.specs.Loops.{anyOf, firstFrom}
+use Rattle.places.specs.Loops.{anyOf, firstFrom, foldList}
 use Rattle.places.specs.Lists.{without}
 use Rattle.places.specs.Stored.{inThrees}
-use Rattle.places.specs.Ring.{foldPairs, prevOf, nextOf, earOf}
+use Rattle.places.specs.Ring.{prevOf, nextOf, earOf}
 use Rattle.floats.specs.Pick.{magnitudeOf}
 use Rattle.flat.specs.Points.{cornersOf}
 use Rattle.flat.specs.Flat.{cross2Of, newellSide, newellOf, axisOf, project2Of, areaSide, summedAreaOf, pointOf, pointsOf}
@@ -13,7 +13,7 @@ use Rattle.cut.specs.Cut.{cutRing, nextCornerOf, cutIn, axisFor, cutOf}
 
 -- numbers and lists
 unfoldable ground : Unit {0}
-unfolding ofInt ofBits add sub mul neg lt le eq anyOf firstFrom without foldPairs prevOf nextOf earOf inThrees magnitudeOf
+unfolding ofInt ofBits add sub mul neg lt le eq anyOf firstFrom without foldList prevOf nextOf earOf inThrees magnitudeOf
 ground = tt
 
 -- the plane that a face is seen in

@@ -1,7 +1,7 @@
 -- What holds of every cut. One induction over the definition, and what it gives: how many triangles there are, of which corners,
 -- and what sums over sides they keep.
 use mathlib.Core.Path.{_≡_, refl, _∙_, ap}
-use mathlib.Core.Bool.{Bool, true, false}
+use mathlib.Core.Bool.{Bool, true, false, cond}
 use mathlib.Core.List.{List, [], _∷_, _++_, append-nil}
 use Prim.Native.Nat.{ℕ, zero, suc, _+_, _-_, _<_, _≤_}
 use native.Mathlib.Omega.{arith}
@@ -9,7 +9,6 @@ use borrow.Author.Tests.{ltb-true, ltb-false}
 use lib.Dec.{ltb}
 use lib.ListN.{length, length-map}
 use lib.IntN.{ℤ, pos, negℤ, _+ℤ_, +ℤ-assoc, +ℤ-idl, +ℤ-idr}
-use Rattle.places.specs.Loops.{pick}
 use Rattle.places.specs.Lists.{Each, without}
 use Rattle.places.specs.Ring.{sides, earOf}
 use Rattle.places.specs.declared.Found.{Found}
@@ -67,7 +66,7 @@ module _ (vs : List Point) (face : List ℕ) where
   unfolding cutOf cutIn directionFor
   cut-all P p = go (ltb (length face) 3) refl
     where
-      go : (b : Bool) → ltb (length face) 3 ≡ b → P face (pick b nothing (cutIn vs (axisFor vs face) face))
+      go : (b : Bool) → ltb (length face) 3 ≡ b → P face (cond b nothing (cutIn vs (axisFor vs face) face))
       go true e = p .small face (ltb-true (length face) 3 e)
       go false e = ring-all choice P valid p (length face - 3) face (omega (arith, ltb-false (length face) 3 e))
 

@@ -1,12 +1,12 @@
 -- The cut of a face: its triangles in order, and the ring that is left. A ring is a list of vertex numbers, and so are its triangles;
 -- a corner's point is looked up.
 -- What the code's contracts cite, what the worked rows compute and what demand 3 speaks of is `cutOf`.
+use mathlib.Core.Bool.{cond}
 use Prim.Native.Nat.{ℕ, zero, suc, _-_}
 use mathlib.Core.List.{List, [], _∷_}
 use lib.ListN.{length}
 use lib.Dec.{ltb}
 use lib.Ieee.{Float}
-use Rattle.places.specs.Loops.{pick}
 use Rattle.places.specs.Lists.{without}
 use Rattle.places.specs.Ring.{earOf}
 use Rattle.places.specs.declared.Found.{Found}
@@ -59,4 +59,4 @@ directionFor vs face = directionOf (pointsOf vs (axisFor vs face) face)
 unfoldable pub cutOf : List Point → List ℕ → Cut
 cutOf vs face =
     let cut = cutIn vs (axisFor vs face) face in
-    pick (ltb (length face) 3) nothing cut
+    cond (ltb (length face) 3) nothing cut

@@ -1,7 +1,7 @@
 -- What the refusals of turning say: a cell's own numbers end at 4, so 11, 12 and 0 are told by the rows of turning, and these by tests.
 use mathlib.Core.Path.{_≡_, refl, sym}
 use mathlib.Core.Logic.{_↔_, _≢_, Iff·rfl, Iff·trans, Iff·and}
-use mathlib.Core.Bool.{Bool, true, false, _||_, false≢true}
+use mathlib.Core.Bool.{Bool, true, false, _||_, false≢true, cond}
 use mathlib.Core.List.{List, [], _∷_}
 use Prim.Native.Nat.{ℕ, _≤_}
 use native.Mathlib.Omega.{arith}
@@ -9,7 +9,7 @@ use borrow.Author.Tests.{eqb-true, eqb-false, eq-eqb, not-false}
 use lib.Dec.{eqb}
 use lib.ListN.{length}
 use lib.Ieee.{Float}
-use Rattle.places.specs.Loops.{pick, anyOf}
+use Rattle.places.specs.Loops.{anyOf}
 use Rattle.exact.specs.Facing.{unfit, choices, choiceOf, closesBy, unclosable}
 use Rattle.exact.proofs.Conditions.{unfit-is, unfit-not, unclosable-is, closable}
 use Rattle.exact.proofs.Test.{closed-test}
@@ -22,7 +22,7 @@ use Rattle.refusals.proofs.Refusals.{or-found}
 use Rattle.demand3.specs.TurnFaces.{Closing, Refuses}
 
 -- ---- the rows of a cell
-four-rows : (a b c d : Bool) → pick a 1 (pick b 2 (pick c 3 (pick d 4 0))) ≤ 4
+four-rows : (a b c d : Bool) → cond a 1 (cond b 2 (cond c 3 (cond d 4 0))) ≤ 4
 four-rows true b c d = omega arith
 four-rows false true c d = omega arith
 four-rows false false true d = omega arith
@@ -31,7 +31,7 @@ four-rows false false false false = omega arith
 
 -- the rows of turning
 abbrev rowsOf : Bool → Bool → ℕ
-rowsOf a b = pick a 11 (pick b 12 0)
+rowsOf a b = cond a 11 (cond b 12 0)
 
 row-11 : (a b : Bool) → (rowsOf a b ≡ 11) ↔ (a ≡ true)
 row-11 true b = (λ e. refl, λ e. refl)
@@ -53,7 +53,7 @@ second : (first rest w : ℕ) → (first ≢ 0 → first ≢ w) → (firstRefusa
 unfolding firstRefusal
 second first rest w n = (go (eqb first 0) refl, λ p. rw (eq-eqb first 0 (p .0)) (p .1))
   where
-    go : (b : Bool) → eqb first 0 ≡ b → pick b rest first ≡ w → (first ≡ 0) × (rest ≡ w)
+    go : (b : Bool) → eqb first 0 ≡ b → cond b rest first ≡ w → (first ≡ 0) × (rest ≡ w)
     go true t z = (eqb-true first 0 t, z)
     go false t z = absurd (n (eqb-false first 0 t) z)
 
@@ -67,7 +67,7 @@ unfolding anyOf
 hit test [] e = absurd (false≢true e)
 hit test (x ∷ l) e = go (test x) refl (hit test l) e
   where
-    go : (b : Bool) → test x ≡ b → (anyOf test l ≡ true → Hit test) → pick b true (anyOf test l) ≡ true → Hit test
+    go : (b : Bool) → test x ≡ b → (anyOf test l ≡ true → Hit test) → cond b true (anyOf test l) ≡ true → Hit test
     go true q ih e = record { it = x; so = q }
     go false q ih e = ih e
 

@@ -2,7 +2,7 @@
 -- list
 -- are the faces before, reversed by it, and the rest is demand 3 and the refusals.
 use mathlib.Core.Path.{_≡_, refl, sym, _∙_, ap}
-use mathlib.Core.Bool.{Bool, true, false, not}
+use mathlib.Core.Bool.{Bool, true, false, not, cond}
 use mathlib.Core.List.{List, [], _∷_}
 use Prim.Native.Nat.{ℕ, suc}
 use native.Mathlib.Omega.{arith}
@@ -10,7 +10,6 @@ use borrow.Author.Tests.{eqb-true, eq-eqb}
 use lib.Dec.{T, eqb, ltb}
 use lib.ListN.{length}
 use lib.Ieee.{Float}
-use Rattle.places.specs.Loops.{pick}
 use Rattle.places.specs.Lists.{Each}
 use Rattle.places.specs.Stored.{joined}
 use Rattle.places.proofs.Lists.{each-nil, each-cons, each-head, each-tail}
@@ -48,7 +47,7 @@ countOr why n = answered why (Count.Is n) Count.Refused
 told-refused : (why w m : ℕ) → Count.Refused w ≡ countOr why m → (w ≡ why) × (eqb why 0 ≡ false)
 told-refused why w m e = go (eqb why 0) refl e
   where
-    go : (b : Bool) → eqb why 0 ≡ b → Count.Refused w ≡ pick b (Count.Is m) (Count.Refused why)
+    go : (b : Bool) → eqb why 0 ≡ b → Count.Refused w ≡ cond b (Count.Is m) (Count.Refused why)
         → (w ≡ why) × (eqb why 0 ≡ false)
     go true q e = (cc, cc)
     go false q e = (cc, q)
@@ -56,7 +55,7 @@ told-refused why w m e = go (eqb why 0) refl e
 told-is : (why n m : ℕ) → Count.Is n ≡ countOr why m → (why ≡ 0) × (n ≡ m)
 told-is why n m e = go (eqb why 0) refl e
   where
-    go : (b : Bool) → eqb why 0 ≡ b → Count.Is n ≡ pick b (Count.Is m) (Count.Refused why) → (why ≡ 0) × (n ≡ m)
+    go : (b : Bool) → eqb why 0 ≡ b → Count.Is n ≡ cond b (Count.Is m) (Count.Refused why) → (why ≡ 0) × (n ≡ m)
     go true q e = (eqb-true why 0 q, cc)
     go false q e = (cc, cc)
 
@@ -64,7 +63,7 @@ told-is why n m e = go (eqb why 0) refl e
 same-count : (why n m : ℕ) → (why ≡ 0 → n ≡ m) → countOr why n ≡ countOr why m
 same-count why n m h = go (eqb why 0) refl
   where
-    go : (b : Bool) → eqb why 0 ≡ b → pick b (Count.Is n) (Count.Refused why) ≡ pick b (Count.Is m) (Count.Refused why)
+    go : (b : Bool) → eqb why 0 ≡ b → cond b (Count.Is n) (Count.Refused why) ≡ cond b (Count.Is m) (Count.Refused why)
     go true q = ap (λ k. Count.Is k) (h (eqb-true why 0 q))
     go false q = refl
 

@@ -1,7 +1,7 @@
 -- No turn is a NaN, since it is finite: coordinates are at most 2 ^ 40 in magnitude, so their differences are at most 2 ^ 41, the products
 -- of these at most 2 ^ 82, and a turn at most 2 ^ 83. So the two rules agree at every corner, choose the same one, and make the same cut.
 use mathlib.Core.Path.{_≡_, refl, ap}
-use mathlib.Core.Bool.{Bool, true, false, not, _&&_, true≢false}
+use mathlib.Core.Bool.{Bool, true, false, not, _&&_, true≢false, cond}
 use mathlib.Core.List.{List, [], _∷_}
 use Prim.Native.Nat.{ℕ, zero, suc, _+_, _-_, _*_, _/_, _^_, _<_, _≤_}
 use native.Mathlib.Omega.{arith}
@@ -10,7 +10,7 @@ use lib.ListN.{length, getD, length-map}
 use lib.Seq.{slice}
 use lib.Ieee.{Float, nan, binary64, neg, lt, le, isNan, ofBits}
 use lib.Ieee.Exact.{HasValue}
-use Rattle.places.specs.Loops.{pick, firstFrom}
+use Rattle.places.specs.Loops.{firstFrom}
 use Rattle.places.specs.Lists.{without}
 use Rattle.places.specs.Ring.{before, after, prevOf, nextOf}
 use Rattle.places.specs.declared.Found.{Found}
@@ -57,7 +57,7 @@ near-plane : (x y z : Float) (axis : ℕ) → Within 40 x → Within 40 y → Wi
 unfolding project2Of
 near-plane x y z axis X Y Z = go (eqb axis 0) (eqb axis 1)
   where
-    go : (a b : Bool) → Near (pick a (y ∷ z ∷ []) (pick b (x ∷ z ∷ []) (x ∷ y ∷ [])))
+    go : (a b : Bool) → Near (cond a (y ∷ z ∷ []) (cond b (x ∷ z ∷ []) (x ∷ y ∷ [])))
     go true b = record { x = Y; y = Z }
     go false true = record { x = X; y = Z }
     go false false = record { x = X; y = Y }
@@ -81,7 +81,7 @@ direction-within : (outline : List Point) → Within 0 (directionOf outline)
 unfolding directionOf
 direction-within outline = go (le zero64 (summedAreaOf outline))
   where
-    go : (b : Bool) → Within 0 (pick b one64 (neg one64))
+    go : (b : Bool) → Within 0 (cond b one64 (neg one64))
     go true = within-one
     go false = within-neg one64 0 within-one
 
@@ -159,7 +159,7 @@ module _ (coords : List Float) (t : numberRefused coords ≡ false) where
     unfolding rustEarAt earAt
     ear-same k h = rw (turn-same k h) (go (lt (turnAt ps dir k) zero64) _)
       where
-        go : (less free : Bool) → pick less false free ≡ pick (not less) free false
+        go : (less free : Bool) → cond less false free ≡ cond (not less) free false
         go true free = refl
         go false free = refl
 
@@ -181,7 +181,7 @@ module _ (coords : List Float) (t : numberRefused coords ≡ false) where
   unfolding rustCutOf cutOf cutIn directionFor
   cut-same face inside =
       let choice = nextCornerOf vs (axisFor vs face) (directionFor vs face) in
-      ap (pick (ltb (length face) 3) nothing) (ring-same vs (rustNextCornerOf vs face) choice (choice-same face)
+      ap (cond (ltb (length face) 3) nothing) (ring-same vs (rustNextCornerOf vs face) choice (choice-same face)
       (length face - 3) face inside)
 
 -- ---- the theorems

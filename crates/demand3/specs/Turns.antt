@@ -1,13 +1,13 @@
 -- No turn of a cut is a NaN. Document 01 takes a corner where turn × direction is at least 0, and the Rust's first pass skips one where it
 -- is below 0: these differ on a NaN only. Of coordinates that pass refusal 2 none arises, and so both rules cut every face alike.
 use mathlib.Core.Path.{_≡_}
-use mathlib.Core.Bool.{Bool, false, not}
+use mathlib.Core.Bool.{Bool, false, not, cond}
 use mathlib.Core.List.{List, []}
 use Prim.Native.Nat.{ℕ, _-_, _<_}
 use lib.Dec.{ltb}
 use lib.ListN.{length, getD}
 use lib.Ieee.{Float, lt, isNan}
-use Rattle.places.specs.Loops.{pick, firstPlace}
+use Rattle.places.specs.Loops.{firstPlace}
 use Rattle.places.specs.Lists.{Each}
 use Rattle.places.specs.Ring.{before, after}
 use Rattle.places.specs.declared.Found.{Found}
@@ -43,7 +43,7 @@ NoNanTurns coords =
 unfoldable pub rustEarAt : List Point → Float → ℕ → Bool
 rustEarAt ps dir k =
     let blocked = blockedOf ps (before [] k ps) (getD ps k []) (after [] k ps) dir in
-    pick (lt (turnAt ps dir k) zero64) false (not blocked)
+    cond (lt (turnAt ps dir k) zero64) false (not blocked)
 
 -- the Rust's choice: where the first pass takes none, its second pass asks for at least 0, as document 01 does
 unfoldable pub rustFindCorner : List Point → Float → Found
@@ -58,7 +58,7 @@ rustNextCornerOf vs face ring = rustFindCorner (pointsOf vs (axisFor vs face) ri
 unfoldable pub rustCutOf : List Point → List ℕ → Cut
 rustCutOf vs face =
     let cut = cutRing (rustNextCornerOf vs face) (length face - 3) face in
-    pick (ltb (length face) 3) nothing cut
+    cond (ltb (length face) 3) nothing cut
 
 -- the Rust's rule and document 01's cut a face alike
 abbrev pub SameCut : List Point → List ℕ → Type 0

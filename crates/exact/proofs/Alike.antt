@@ -6,7 +6,8 @@ use Prim.Native.Nat.{ℕ, _+_}
 use lib.Dec.{eqb}
 use lib.IntN.{ℤ, pos, negℤ, natAbs, _+ℤ_, _*ℤ_, _-ℤ_, +ℤ-assoc, +ℤ-idl, +ℤ-invr, negℤ-negℤ}
 use Rattle.places.specs.Ring.{sides}
-use Rattle.exact.specs.Sides.{allSides, bit, fromTo, count, runs, Closed}
+use Rattle.places.specs.Loops.{oneIf}
+use Rattle.exact.specs.Sides.{allSides, fromTo, count, runs, Closed}
 use Rattle.exact.specs.Space.{V3, sum, plus, area, crossX, crossY, crossZ}
 use Rattle.exact.proofs.Ring.{neg-unique}
 use Rattle.exact.proofs.Poly.{var, _⊕_, _⊗_, ⊖, ring}
@@ -22,14 +23,14 @@ sum-faces w (f ∷ fs) gs =
 
 -- ---- the sides i to j less those j to i, as such a weight
 abbrev net : ℕ → ℕ → ℕ → ℕ → ℤ
-net i j u x = pos (bit (fromTo i j (u, x))) -ℤ pos (bit (fromTo j i (u, x)))
+net i j u x = pos (oneIf (fromTo i j (u, x))) -ℤ pos (oneIf (fromTo j i (u, x)))
 
 flip : (a b : ℤ) → a -ℤ b ≡ negℤ (b -ℤ a)
 flip a b = ring (a ∷ b ∷ []) (var 0 ⊕ ⊖ (var 1)) (⊖ (var 1 ⊕ ⊖ (var 0))) tt
 
 net-anti : (i j : ℕ) → Anti (net i j)
 net-anti i j u x =
-    rw (and-comm (eqb x i) (eqb u j), and-comm (eqb x j) (eqb u i)) (flip (pos (bit (fromTo i j (u, x)))) (pos (bit (fromTo j i (u, x)))))
+    rw (and-comm (eqb x i) (eqb u j), and-comm (eqb x j) (eqb u i)) (flip (pos (oneIf (fromTo i j (u, x)))) (pos (oneIf (fromTo j i (u, x)))))
 
 apart : (a b c d : ℤ) → (a -ℤ b) +ℤ (c -ℤ d) ≡ (a +ℤ c) -ℤ (b +ℤ d)
 apart a b c d = ring (a ∷ b ∷ c ∷ d ∷ []) ((var 0 ⊕ ⊖ (var 1)) ⊕ (var 2 ⊕ ⊖ (var 3))) ((var 0 ⊕ var 2) ⊕ ⊖ (var 1 ⊕ var 3)) tt
@@ -37,7 +38,7 @@ apart a b c d = ring (a ∷ b ∷ c ∷ d ∷ []) ((var 0 ⊕ ⊖ (var 1)) ⊕ (
 net-sum : (i j : ℕ) (l : List (ℕ × ℕ)) → sum (net i j) l ≡ pos (count i j l) -ℤ pos (count j i l)
 net-sum i j [] = refl
 net-sum i j (e ∷ l) =
-    rw (net-sum i j l) (apart (pos (bit (fromTo i j e))) (pos (bit (fromTo j i e))) (pos (count i j l)) (pos (count j i l)))
+    rw (net-sum i j l) (apart (pos (oneIf (fromTo i j e))) (pos (oneIf (fromTo j i e))) (pos (count i j l)) (pos (count j i l)))
 
 level : (a b : ℕ) → pos a -ℤ pos b ≡ pos 0 → a ≡ b
 level a b h = ap natAbs (neg-unique (pos a) (negℤ (pos b)) h ∙ negℤ-negℤ (pos b))

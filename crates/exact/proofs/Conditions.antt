@@ -2,7 +2,7 @@
 -- among all sides, and every choice is, as far as the faces go, one of the lists that are tried.
 use mathlib.Core.Path.{_≡_, refl, sym, _∙_}
 use mathlib.Core.Logic.{_↔_, _≢_, Iff·trans, Iff·and, by-cases}
-use mathlib.Core.Bool.{Bool, true, false, _||_, true≢false, false≢true}
+use mathlib.Core.Bool.{Bool, true, false, _||_, true≢false, false≢true, cond}
 use mathlib.Core.List.{List, [], _∷_, _++_, map}
 use Prim.Native.Nat.{ℕ, zero, suc, _<_}
 use native.Mathlib.Decide.{ℕ-discrete, decLt}
@@ -11,7 +11,7 @@ use lib.Dec.{eqb, not-T}
 use lib.Ieee.Bits.{is-true, is-false}
 use lib.ListN.{length, getD, List·getD-eq-default}
 use borrow.Author.Tests.{eqb-true, eqb-false, eq-eqb, ne-eqb, not-true, not-false}
-use Rattle.places.specs.Loops.{pick, anyOf}
+use Rattle.places.specs.Loops.{anyOf}
 use Rattle.places.specs.Lists.{Each}
 use Rattle.places.proofs.Lists.{each-nil, each-cons, each-head, each-tail}
 use Rattle.exact.specs.Sides.{allSides, fromTo, count, runs, Closed}
@@ -37,7 +37,7 @@ module _ {A : Type 0} (test : A → Bool) where
   unfolding anyOf
   any-cons x l = go (test x)
     where
-      go : (b : Bool) → pick b true (anyOf test l) ≡ (b || anyOf test l)
+      go : (b : Bool) → cond b true (anyOf test l) ≡ (b || anyOf test l)
       go true = refl
       go false = refl
 

@@ -1,6 +1,6 @@
 -- Cutting one corner off a ring keeps the sum over sides of every weight that changes its sign with the direction.
 use mathlib.Core.Path.{_≡_, refl, sym, _∙_, ap}
-use mathlib.Core.Bool.{Bool, true, false}
+use mathlib.Core.Bool.{Bool, true, false, cond}
 use mathlib.Core.List.{List, [], _∷_, _++_, append-nil}
 use Prim.Native.Nat.{ℕ, zero, suc, _+_, _-_, _<_, _≤_}
 use native.Mathlib.Omega.{arith}
@@ -9,7 +9,6 @@ use lib.Dec.{ltb}
 use lib.ListN.{length, getD, take, drop, length-append, length-take, length-drop, drop-of-length-le, List·getD-append}
 use lib.Seq.{split-at, getD-append-add, getD-take, getD-drop}
 use lib.IntN.{ℤ, pos, negℤ, _+ℤ_, +ℤ-assoc, +ℤ-idl, +ℤ-idr, +ℤ-comm}
-use Rattle.places.specs.Loops.{pick}
 use Rattle.places.specs.Lists.{without}
 use Rattle.places.specs.Ring.{walk, sides, prevOf, nextOf, earOf}
 use Rattle.places.proofs.Lists.{without-is}
@@ -41,7 +40,7 @@ after-is : (n : ℕ) (r : List ℕ) → n < length r → 2 ≤ length r → getD
 unfolding rotated nextOf
 after-is n r h g = go (ltb (n + 1) (length r)) refl
   where
-    go : (b : Bool) → ltb (n + 1) (length r) ≡ b → getD r (pick b (n + 1) 0) 0 ≡ getD (drop (suc n) r ++ take n r) 0 0
+    go : (b : Bool) → ltb (n + 1) (length r) ≡ b → getD r (cond b (n + 1) 0) 0 ≡ getD (drop (suc n) r ++ take n r) 0 0
     go true e =
         let l : n + 1 < length r = ltb-true (n + 1) (length r) e in
         let o : 0 < length (drop (suc n) r) = simp length-drop (omega arith) in

@@ -2,13 +2,12 @@
 -- and the choice is unique once the lowest face of each group keeps its direction.
 use mathlib.Core.Path.{_≡_, refl, sym, _∙_, ap}
 use mathlib.Core.Logic.{_≢_, by-cases}
-use mathlib.Core.Bool.{Bool, true, false, not, Bool-discrete}
+use mathlib.Core.Bool.{Bool, true, false, not, Bool-discrete, cond}
 use mathlib.Core.List.{List, [], _∷_}
 use Prim.Native.Nat.{ℕ, zero, suc, _+_, _<_}
 use native.Mathlib.Decide.{ℕ-discrete, decLt}
 use native.Mathlib.Omega.{arith}
 use lib.ListN.{getD}
-use Rattle.places.specs.Loops.{pick}
 use Rattle.places.specs.Ring.{sides}
 use Rattle.exact.specs.Sides.{count, runs, Closed}
 use Rattle.exact.specs.Facing.{faceBy, reversedBy, howMany, occurs, Twice, has, Share, Group, itself, over, Lowest, Made}
@@ -54,7 +53,7 @@ group-back (over s p) = group-join (group-back p) (over (share-sym s) itself)
 -- ---- one shared side
 -- by two choices a face runs a side the same way where they agree, and back where they differ
 by-differ : (i j : ℕ) (b a : Bool) (f : List ℕ)
-    → count i j (sides (faceBy (differ b a) f)) ≡ count (pick b j i) (pick b i j) (sides (faceBy a f))
+    → count i j (sides (faceBy (differ b a) f)) ≡ count (cond b j i) (cond b i j) (sides (faceBy a f))
 by-differ i j true a f = by-not i j a f
 by-differ i j false a f = refl
 
@@ -147,21 +146,21 @@ same-choice fs n c d h =
 -- ---- a choice that agrees with a closing one over each shared side closes
 -- where the choices differ at all faces with the side between i and j (b), or at none, they run it back, or the same way
 all-alike : (i j : ℕ) (b : Bool) (fs : List (List ℕ)) (c d : ℕ → Bool) → ((k : ℕ) → 0 < has i j (getD fs k []) → differ (c k) (d k) ≡ b)
-    → runs i j (reversedBy c fs) ≡ runs (pick b j i) (pick b i j) (reversedBy d fs)
-all-alike i j b [] c d h = runs-none i j ∙ sym (runs-none (pick b j i) (pick b i j))
+    → runs i j (reversedBy c fs) ≡ runs (cond b j i) (cond b i j) (reversedBy d fs)
+all-alike i j b [] c d h = runs-none i j ∙ sym (runs-none (cond b j i) (cond b i j))
 all-alike i j b (f ∷ fs) c d h =
     rw (
       runs-cons i j (faceBy (c 0) f) (reversedBy (λ k. c (suc k)) fs),
-      runs-cons (pick b j i) (pick b i j) (faceBy (d 0) f) (reversedBy (λ k. d (suc k)) fs),
+      runs-cons (cond b j i) (cond b i j) (faceBy (d 0) f) (reversedBy (λ k. d (suc k)) fs),
       all-alike i j b fs (λ k. c (suc k)) (λ k. d (suc k)) (λ k. h (suc k)),
       go (decLt 0 (has i j f)),
     )
   where
-    none : (b : Bool) → has i j (faceBy (d 0) f) ≡ 0 → count (pick b j i) (pick b i j) (sides (faceBy (d 0) f)) ≡ 0
+    none : (b : Bool) → has i j (faceBy (d 0) f) ≡ 0 → count (cond b j i) (cond b i j) (sides (faceBy (d 0) f)) ≡ 0
     none true e = omega arith
     none false e = omega arith
 
-    go : Dec (0 < has i j f) → count i j (sides (faceBy (c 0) f)) ≡ count (pick b j i) (pick b i j) (sides (faceBy (d 0) f))
+    go : Dec (0 < has i j f) → count i j (sides (faceBy (c 0) f)) ≡ count (cond b j i) (cond b i j) (sides (faceBy (d 0) f))
     go (yes p) = rw (differ-tells (c 0) (d 0) b (h 0 p)) (by-differ i j b (d 0) f)
     go (no n) = omega (arith, by-has i j (c 0) f, none b (omega (arith, by-has i j (d 0) f)))
 
@@ -170,7 +169,7 @@ pub carries : (fs : List (List ℕ)) (c d : ℕ → Bool) → ((f g : ℕ) → S
     → Closed (reversedBy d fs) → Closed (reversedBy c fs)
 carries fs c d h cl i j apart = by-cases (decLt 0 (occurs i j fs)) (λ p. at (user i j fs p)) (λ n. omega (arith, occurs-by i j c fs))
   where
-    level : (b : Bool) → runs (pick b j i) (pick b i j) (reversedBy d fs) ≡ runs (pick b i j) (pick b j i) (reversedBy d fs)
+    level : (b : Bool) → runs (cond b j i) (cond b i j) (reversedBy d fs) ≡ runs (cond b i j) (cond b j i) (reversedBy d fs)
     level true = sym (cl i j apart)
     level false = cl i j apart
 

@@ -2,14 +2,13 @@
 -- nothing, and two choices that close differ on whole groups. The choice is unique (Forced.antt), and reversals keep both conditions.
 use mathlib.Core.Path.{_≡_, refl, sym, _∙_, ap}
 use mathlib.Core.Logic.{_⊎_, inl, inr}
-use mathlib.Core.Bool.{Bool, true, false, not}
+use mathlib.Core.Bool.{Bool, true, false, not, cond}
 use mathlib.Core.List.{List, [], _∷_}
 use Prim.Native.Nat.{ℕ, zero, suc, _-_}
 use native.Mathlib.Omega.{arith}
 use lib.Dec.{eqb}
 use lib.ListN.{length, getD, length-reverse}
 use borrow.Author.Tests.{eqb-true}
-use Rattle.places.specs.Loops.{pick}
 use Rattle.places.specs.Stored.{joined}
 use Rattle.places.proofs.Reversal.{reverse-at}
 use Rattle.exact.specs.Sides.{Closed}
@@ -27,7 +26,7 @@ one-outcome why fs c d before after after′ tw t u =
     same : why ≡ 0 → (reversedBy c fs ≡ reversedBy d fs) × (howMany c (length fs) ≡ howMany d (length fs))
     same z = same-choice fs (length fs) c d (unique fs (tw z) c d (t .made z) (u .made z))
 
-    go : (b : Bool) → eqb why 0 ≡ b → pick b (joined (reversedBy c fs)) before ≡ pick b (joined (reversedBy d fs)) before
+    go : (b : Bool) → eqb why 0 ≡ b → cond b (joined (reversedBy c fs)) before ≡ cond b (joined (reversedBy d fs)) before
     go true e = ap (λ x. joined x) (same (eqb-true why 0 e) .0)
     go false e = refl
 

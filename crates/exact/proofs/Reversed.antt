@@ -10,7 +10,8 @@ use native.Mathlib.Omega.{arith}
 use lib.Dec.{eqb}
 use lib.ListN.{length, getD, length-reverse}
 use Rattle.places.specs.Ring.{walk, sides}
-use Rattle.exact.specs.Sides.{allSides, bit, count, runs}
+use Rattle.places.specs.Loops.{oneIf}
+use Rattle.exact.specs.Sides.{allSides, count, runs}
 use Rattle.exact.specs.Facing.{faceBy, reversedBy, occurs, has}
 use Rattle.exact.proofs.Balance.{and-comm}
 
@@ -27,7 +28,7 @@ walk-back : (i j a : ℕ) (l : List ℕ) (z : ℕ) → count i j (walk z (revers
 walk-back i j a [] z = rw (and-comm (eqb z i) (eqb a j))
 walk-back i j a (b ∷ l) z =
     rw (reverse-cons b l, walk-split z (reverse l) b [] a, count-append i j (walk z (reverse l) b) (walk b [] a))
-    (omega (arith, walk-back i j b l z, ap bit (and-comm (eqb b i) (eqb a j))))
+    (omega (arith, walk-back i j b l z, ap oneIf (and-comm (eqb b i) (eqb a j))))
 
 -- a face that ends in a has the sides of the walk from a to a
 around : (i j a : ℕ) (m : List ℕ) → count i j (sides (m ++ a ∷ [])) ≡ count i j (walk a m a)

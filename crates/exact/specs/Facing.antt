@@ -2,22 +2,22 @@
 -- fs are the faces of the cell, each the list of its corners' vertex numbers.
 use mathlib.Core.Path.{_≡_}
 use mathlib.Core.Logic.{_≢_}
-use mathlib.Core.Bool.{Bool, true, false, not, _&&_, _||_}
+use mathlib.Core.Bool.{Bool, true, false, not, _&&_, _||_, cond}
 use mathlib.Core.List.{List, [], _∷_, _++_, map, reverse}
 use Prim.Native.Nat.{ℕ, zero, suc, _+_, _<_}
 use lib.Dec.{eqb}
 use lib.ListN.{length, getD}
-use Rattle.places.specs.Loops.{pick, anyOf}
+use Rattle.places.specs.Loops.{anyOf, oneIf}
 use Rattle.places.specs.Ring.{sides}
 use Rattle.places.specs.Stored.{joined}
-use Rattle.exact.specs.Sides.{allSides, bit, count, runs, Closed, closedOf}
+use Rattle.exact.specs.Sides.{allSides, count, runs, Closed, closedOf}
 
 -- ---- 'Add a pass that reverses some faces so that the cell becomes closed.'
 -- A choice of reversals is a yes or no for each face number.
 
 -- a face: reversed where `back` is yes, else as it is
 abbrev pub faceBy : Bool → List ℕ → List ℕ
-faceBy back face = pick back (reverse face) face
+faceBy back face = cond back (reverse face) face
 
 -- the faces after a choice
 abbrev pub reversedBy : (ℕ → Bool) → List (List ℕ) → List (List ℕ)
@@ -27,7 +27,7 @@ reversedBy choice (f ∷ fs) = faceBy (choice 0) f ∷ reversedBy (λ k. choice 
 -- how many of n faces a choice reverses
 abbrev pub howMany : (ℕ → Bool) → ℕ → ℕ
 howMany choice zero = 0
-howMany choice (suc n) = bit (choice 0) + howMany (λ k. choice (suc k)) n
+howMany choice (suc n) = oneIf (choice 0) + howMany (λ k. choice (suc k)) n
 
 -- ---- 'It applies where each side between two different vertices, taken without direction, occurs exactly twice over all faces
 -- and no face holds a vertex twice.'
@@ -84,7 +84,7 @@ pub record Made (fs : List (List ℕ)) (choice : ℕ → Bool) : Type 0 where
 pub record Reversed (why : ℕ) (fs : List (List ℕ)) (choice : ℕ → Bool) (before after : List ℕ) : Type 0 where
   pub made : why ≡ 0 → Made fs choice
   -- the faces by the choice, one after the other; on every refusal what stood there before
-  pub list : after ≡ pick (eqb why 0) (joined (reversedBy choice fs)) before
+  pub list : after ≡ cond (eqb why 0) (joined (reversedBy choice fs)) before
 
 -- ---- 'Refusals: 11 when either condition, on sides or on doubled vertices, fails': the failure as a test.
 -- proofs/Conditions.antt shows that it says yes exactly where `Fit` fails.

@@ -6,6 +6,7 @@ use mathlib.Core.List.{List, [], _∷_, _++_}
 use Prim.Native.Nat.{ℕ, _+_}
 use lib.Dec.{eqb}
 use Rattle.places.specs.Ring.{sides}
+use Rattle.places.specs.Loops.{oneIf}
 
 -- the sides of all faces, in order
 abbrev pub allSides : List (List ℕ) → List (ℕ × ℕ)
@@ -16,15 +17,10 @@ allSides (f ∷ fs) = sides f ++ allSides fs
 abbrev pub fromTo : ℕ → ℕ → ℕ × ℕ → Bool
 fromTo i j e = eqb (e .0) i && eqb (e .1) j
 
--- 1 for yes, 0 for no
-abbrev pub bit : Bool → ℕ
-bit true = 1
-bit false = 0
-
 -- how many sides of a list run from i to j
 abbrev pub count : ℕ → ℕ → List (ℕ × ℕ) → ℕ
 count i j [] = 0
-count i j (e ∷ l) = bit (fromTo i j e) + count i j l
+count i j (e ∷ l) = oneIf (fromTo i j e) + count i j l
 
 -- how many face sides run from i to j
 unfoldable pub runs : ℕ → ℕ → List (List ℕ) → ℕ

@@ -2,7 +2,7 @@
 -- With all sides asked every neighbour is reached.
 use mathlib.Core.Path.{_≡_, refl, sym, _∙_, ap}
 use mathlib.Core.Logic.{_≢_}
-use mathlib.Core.Bool.{Bool, true, false, not, _&&_, Bool·beq}
+use mathlib.Core.Bool.{Bool, true, false, not, _&&_, Bool·beq, cond}
 use mathlib.Core.List.{List, []}
 use Prim.Native.Nat.{ℕ, _+_, _<_, _≤_}
 use native.Mathlib.Decide.{ℕ-discrete}
@@ -10,9 +10,9 @@ use native.Mathlib.Omega.{arith}
 use lib.Dec.{eqb}
 use lib.ListN.{length, getD, set}
 use borrow.Author.Tests.{eq-eqb, ne-eqb, lt-ltb, le-ltb}
-use Rattle.places.specs.Loops.{pick}
 use Rattle.places.specs.Ring.{sides}
-use Rattle.exact.specs.Sides.{bit, count}
+use Rattle.places.specs.Loops.{oneIf}
+use Rattle.exact.specs.Sides.{count}
 use Rattle.exact.specs.Facing.{faceBy, Twice, has, Share}
 use Rattle.shared_sides.specs.Steps.{faceOf, downOf, runsUp, Pair}
 use Rattle.facing.specs.Steps.{codeChoice, otherOf, upOf, againstOf, Met, as-was, now-reached, Spread}
@@ -37,7 +37,7 @@ pair-swap p = record {
 against-runs : (m : ℕ) (up : Bool) → runsUp (eqb (againstOf m up) 2) m ≡ not up
 against-runs m up = go (downOf m) up
   where
-    go : (d u : Bool) → Bool·beq (eqb (pick (Bool·beq d u) 1 2) 2) d ≡ not u
+    go : (d u : Bool) → Bool·beq (eqb (cond (Bool·beq d u) 1 2) 2) d ≡ not u
     go true true = refl
     go true false = refl
     go false true = refl
@@ -46,7 +46,7 @@ against-runs m up = go (downOf m) up
 against-some : (m : ℕ) (up : Bool) → 0 < againstOf m up
 against-some m up = go (Bool·beq (downOf m) up)
   where
-    go : (b : Bool) → 0 < pick {A = ℕ} b 1 2
+    go : (b : Bool) → 0 < cond {A = ℕ} b 1 2
     go true = omega arith
     go false = omega arith
 
@@ -54,18 +54,18 @@ against-some m up = go (Bool·beq (downOf m) up)
 pub up-forth : (a b w : ℕ) → a < b → upOf a b w ≡ Bool·beq (eqb w 2) false
 up-forth a b w h = rw (lt-ltb a b h, le-ltb b a (omega arith)) (go (eqb w 2))
   where
-    go : (c : Bool) → pick c false true ≡ Bool·beq c false
+    go : (c : Bool) → cond c false true ≡ Bool·beq c false
     go true = refl
     go false = refl
 
 pub up-back : (a b w : ℕ) → b < a → upOf a b w ≡ Bool·beq (eqb w 2) true
 up-back a b w h = rw (lt-ltb b a h, le-ltb a b (omega arith)) (go (eqb w 2))
   where
-    go : (c : Bool) → pick c true false ≡ Bool·beq c true
+    go : (c : Bool) → cond c true false ≡ Bool·beq c true
     go true = refl
     go false = refl
 
-one-way : (u : Bool) → bit u + bit (not u) ≡ 1
+one-way : (u : Bool) → oneIf u + oneIf (not u) ≡ 1
 one-way true = refl
 one-way false = refl
 
@@ -89,14 +89,14 @@ module _ {fs : List (List ℕ)} {t list : List ℕ} {low head tail : ℕ} (s : S
       go (yes e) d = rw (← e) hx
       go (no n) (yes e) = rw (← e) hy
       go (no n) (no m) =
-          let a : bit (eqb (faceOf x) g) ≡ 0 = rw (ne-eqb (faceOf x) g n) in
-          let b : bit (eqb (faceOf y) g) ≡ 0 = rw (ne-eqb (faceOf y) g m) in
+          let a : oneIf (eqb (faceOf x) g) ≡ 0 = rw (ne-eqb (faceOf x) g n) in
+          let b : oneIf (eqb (faceOf y) g) ≡ 0 = rw (ne-eqb (faceOf y) g m) in
           absurd (omega (arith, p .has-is g))
 
   -- x is the mark of the asking face f, which, reversed where `back`, runs the side up
   module _ (tw : Twice fs) (i j x y f : ℕ) (back up : Bool) (apart : i ≢ j) (p : Pair fs i j x y) (hf : 0 < getD t f 0) (own : faceOf x ≡ f)
       (run : 0 < count i j (sides (faceBy back (getD fs f [])))) (way : up ≡ Bool·beq (codeChoice t f) back) where
-    self : (g : ℕ) → bit (eqb (faceOf g) (faceOf g)) ≡ 1
+    self : (g : ℕ) → oneIf (eqb (faceOf g) (faceOf g)) ≡ 1
     self g = rw (eq-eqb (faceOf g) (faceOf g) refl)
 
     module _ (un : getD t (faceOf y) 0 ≡ 0) where
@@ -107,16 +107,16 @@ module _ {fs : List (List ℕ)} {t list : List ℕ} {low head tail : ℕ} (s : S
       hy = omega (arith, s .codes, p .second)
 
       -- the side is f's only by the mark x
-      mine : (b : Bool) → count i j (sides (faceBy b (getD fs f []))) ≡ bit (runsUp b x)
+      mine : (b : Bool) → count i j (sides (faceBy b (getD fs f []))) ≡ oneIf (runsUp b x)
       mine b = p .up-is f b ∙ rw (own, eq-eqb f f refl, ne-eqb (faceOf y) f (λ e. ne (sym e))) (omega arith)
 
-      theirs : (b : Bool) → count i j (sides (faceBy b (getD fs (faceOf y) []))) ≡ bit (runsUp b y)
+      theirs : (b : Bool) → count i j (sides (faceBy b (getD fs (faceOf y) []))) ≡ oneIf (runsUp b y)
       theirs b = p .up-is (faceOf y) b ∙ rw (own, eq-eqb (faceOf y) (faceOf y) refl, ne-eqb f (faceOf y) ne) (omega arith)
 
       down : downOf x ≡ back
       down = go back (downOf x) (omega (arith, mine back))
         where
-          go : (b d : Bool) → 0 < bit (Bool·beq b d) → d ≡ b
+          go : (b d : Bool) → 0 < oneIf (Bool·beq b d) → d ≡ b
           go true true h = refl
           go true false h = absurd (omega arith)
           go false true h = absurd (omega arith)
@@ -127,7 +127,7 @@ module _ {fs : List (List ℕ)} {t list : List ℕ} {low head tail : ℕ} (s : S
         i = i;
         j = j;
         apart = apart;
-        one = omega (arith, p .has-is f, ap (λ g. bit (eqb (faceOf x) g)) (sym own), self x);
+        one = omega (arith, p .has-is f, ap (λ g. oneIf (eqb (faceOf x) g)) (sym own), self x);
         other = omega (arith, p .has-is (faceOf y), self y);
       }
 
@@ -160,8 +160,8 @@ module _ {fs : List (List ℕ)} {t list : List ℕ} {low head tail : ℕ} (s : S
                   go : Dec (faceOf x ≡ g) → g ≡ f
                   go (yes e) = sym e ∙ own
                   go (no o) =
-                      let a : bit (eqb (faceOf x) g) ≡ 0 = rw (ne-eqb (faceOf x) g o) in
-                      let b : bit (eqb (faceOf y) g) ≡ 0 = rw (ne-eqb (faceOf y) g n) in
+                      let a : oneIf (eqb (faceOf x) g) ≡ 0 = rw (ne-eqb (faceOf x) g o) in
+                      let b : oneIf (eqb (faceOf y) g) ≡ 0 = rw (ne-eqb (faceOf y) g n) in
                       absurd (omega (arith, p .has-is g))
 
     met-own : {t′ list′ : List ℕ} {tail′ : ℕ} → Met t list tail y up t′ list′ tail′ → Moved fs t list low head tail t′ list′ tail′ i j
@@ -185,6 +185,6 @@ module _ {fs : List (List ℕ)} {t list : List ℕ} {low head tail : ℕ} (s : S
       go (yes e) d = met-own tw i j x y f back up apart p hf e run way (rw (eq-eqb (faceOf x) f e) at met)
       go (no n) (yes e) = met-own tw i j y x f back up apart (pair-swap p) hf e run way (rw (ne-eqb (faceOf x) f n) at met)
       go (no n) (no m) =
-          let z : bit (eqb (faceOf x) f && runsUp back x) ≡ 0 = rw (ne-eqb (faceOf x) f n) in
-          let o : bit (eqb (faceOf y) f && runsUp back y) ≡ 0 = rw (ne-eqb (faceOf y) f m) in
+          let z : oneIf (eqb (faceOf x) f && runsUp back x) ≡ 0 = rw (ne-eqb (faceOf x) f n) in
+          let o : oneIf (eqb (faceOf y) f && runsUp back y) ≡ 0 = rw (ne-eqb (faceOf y) f m) in
           absurd (omega (arith, p .up-is f back))

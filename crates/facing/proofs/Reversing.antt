@@ -10,9 +10,9 @@ use lib.ListN.{length, getD, take, drop, drop-of-length-le}
 use lib.Seq.{slice, length-slice, take-all}
 use borrow.Rule.Slice.PartMut.{putMid}
 use Rattle.places.specs.Stored.{joined}
-use Rattle.places.proofs.Loops.{drop-more}
+use Rattle.places.proofs.Loops.{drop-more, one-at-most}
 use Rattle.places.proofs.Stretch.{lay}
-use Rattle.exact.specs.Sides.{bit}
+use Rattle.places.specs.Loops.{oneIf}
 use Rattle.exact.specs.Facing.{faceBy, reversedBy, howMany}
 use Rattle.exact.proofs.Reversed.{length-by}
 use Rattle.cell.specs.Faces.{facesFrom, facesOf, rises}
@@ -27,10 +27,6 @@ pub record Reversing (c₀ es t whole : List ℕ) (many p k n : ℕ) (c : List �
   pub few : n ≤ k
   pub counted : n + howMany (codeChoice (drop k t)) (length es - k) ≡ many
   pub so : take p c ++ joined (reversedBy (codeChoice (drop k t)) (facesFrom p c₀ (drop k es))) ≡ whole
-
-pub once : (b : Bool) → bit b ≤ 1
-once true = omega arith
-once false = omega arith
 
 module _ {c₀ es t : List ℕ} where
   pub reverse-start : T (rises 0 es (length c₀))
@@ -50,7 +46,7 @@ module _ {c₀ es t : List ℕ} where
     lent = rw (r .ahead) (part-is p e c₀ (reverse-step .from))
 
     pub reverse-next : {w : ℕ} {part : List ℕ} {n′ : ℕ} → length t ≡ length es → w ≡ getD t k 0
-        → part ≡ faceBy (eqb w 2) (take (e - p) (drop p c)) → n′ ≡ n + bit (eqb w 2)
+        → part ≡ faceBy (eqb w 2) (take (e - p) (drop p c)) → n′ ≡ n + oneIf (eqb w 2)
         → Reversing c₀ es t whole many e (k + 1) n′ (putMid p (e - p) c part)
     unfolding joined
     reverse-next {w} {part} {n′} lt ew g m =
@@ -68,7 +64,7 @@ module _ {c₀ es t : List ℕ} where
           ordered = s .rest;
           long = laid .long ∙ z;
           ahead = laid .ahead;
-          few = omega (arith, r .few, once (eqb w 2));
+          few = omega (arith, r .few, one-at-most (eqb w 2));
           counted = omega (arith, rw (left, codes) at (r .counted));
           so = rw (laid .front, append-assoc, is, q) (rw (codes, faces-more p c₀ es k h) at (r .so));
         }

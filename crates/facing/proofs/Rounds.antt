@@ -2,7 +2,7 @@
 -- whether two faces run a side the same way.
 use mathlib.Core.Path.{_≡_, refl, sym, _∙_, ap}
 use mathlib.Core.Logic.{_≢_, _↔_}
-use mathlib.Core.Bool.{Bool, true, false, not, Bool·beq, false≢true}
+use mathlib.Core.Bool.{Bool, true, false, not, Bool·beq, false≢true, cond}
 use mathlib.Core.List.{List, [], _∷_}
 use Prim.Native.Nat.{ℕ, zero, suc, _+_, _<_, _≤_}
 use native.Mathlib.Decide.{ℕ-discrete, decLt}
@@ -10,12 +10,12 @@ use native.Mathlib.Omega.{arith}
 use lib.Dec.{eqb, ltb}
 use lib.ListN.{length, getD}
 use borrow.Author.Tests.{eq-eqb, ne-eqb, lt-ltb, le-ltb}
-use Rattle.places.specs.Loops.{pick}
 use Rattle.places.specs.Lists.{Each}
 use Rattle.places.specs.Ring.{sides, nextOf}
 use Rattle.places.proofs.Lists.{each-slice}
 use Rattle.places.proofs.Rings.{length-sides, side-at, next-below}
-use Rattle.exact.specs.Sides.{bit, fromTo, count, runs, Closed}
+use Rattle.places.specs.Loops.{oneIf}
+use Rattle.exact.specs.Sides.{fromTo, count, runs, Closed}
 use Rattle.exact.specs.Facing.{faceBy, reversedBy, occurs, has, Share}
 use Rattle.exact.proofs.Balance.{fromTo-eq}
 use Rattle.exact.proofs.Reversed.{sides-back, occurs-by, one-of, in-range, user}
@@ -103,8 +103,8 @@ module _ {number table corners ends : List ℕ} {k : ℕ} (ground : Ground numbe
   beside a b ka kb ne o = go (decLt a b)
     where
       go : Dec (a < b)
-          → Beside fs a b (pick (ltb a b) (getD table (at a b) 0) (getD table (at b a) 0))
-          (pick (ltb a b) (getD table (at b a) 0) (getD table (at a b) 0))
+          → Beside fs a b (cond (ltb a b) (getD table (at a b) 0) (getD table (at b a) 0))
+          (cond (ltb a b) (getD table (at b a) 0) (getD table (at a b) 0))
       go (yes h) = rw (lt-ltb a b h) (forth h (ground .paired .pair a b h ka kb o))
       go (no n) =
           let h : b < a = omega arith in
@@ -264,7 +264,7 @@ module _ {number table corners ends t list : List ℕ} {k low head tail f w i a 
   neighbour-below : a ≢ b → Marked (entryOf number k) table (length ends) (a, b) → faceOf (otherOf mark-one mark-two f) < length ends
   neighbour-below ne m = go (eqb (faceOf mark-one) f)
     where
-      go : (c : Bool) → faceOf (pick c mark-two mark-one) < length ends
+      go : (c : Bool) → faceOf (cond c mark-two mark-one) < length ends
       go true = m .second ne .1
       go false = m .first ne .1
 
@@ -272,7 +272,7 @@ module _ {number table corners ends t list : List ℕ} {k low head tail f w i a 
   unfolding neighbourOf
   neighbour-face h = go (ℕ-discrete a b)
     where
-      go : Dec (a ≡ b) → faceOf (pick (eqb a b) 0 (otherOf mark-one mark-two f)) < length ends
+      go : Dec (a ≡ b) → faceOf (cond (eqb a b) 0 (otherOf mark-one mark-two f)) < length ends
       go (yes e) = rw (eq-eqb a b e) (omega (arith, o .below))
       go (no n) = rw (ne-eqb a b n) (neighbour-below n (here-marked ground o))
 
@@ -291,13 +291,13 @@ module _ {number table corners ends t list : List ℕ} {k low head tail f w i a 
       rw e ((λ h. omega (arith, neighbour-face h), omega arith), (neighbour-room, omega arith))
 
 -- ---- whether two faces run a side the same way
-opposite : (u v : Bool) → Bool·beq u v ≡ false → bit u + bit v ≡ bit (not u) + bit (not v)
+opposite : (u v : Bool) → Bool·beq u v ≡ false → oneIf u + oneIf v ≡ oneIf (not u) + oneIf (not v)
 opposite true true e = absurd (false≢true (sym e))
 opposite true false e = refl
 opposite false true e = refl
 opposite false false e = absurd (false≢true (sym e))
 
-level : (u v : Bool) → bit u + bit v ≡ bit (not u) + bit (not v) → Bool·beq u v ≡ false
+level : (u v : Bool) → oneIf u + oneIf v ≡ oneIf (not u) + oneIf (not v) → Bool·beq u v ≡ false
 level true true e = absurd (omega arith)
 level true false e = refl
 level false true e = refl

@@ -2,15 +2,15 @@
 -- t has a code for each face: 0 not reached, 1 keeps its direction, 2 is reversed.
 use mathlib.Core.Path.{_≡_}
 use mathlib.Core.Logic.{_≢_}
-use mathlib.Core.Bool.{Bool, true, not, _&&_, Bool·beq}
+use mathlib.Core.Bool.{Bool, true, not, _&&_, Bool·beq, cond}
 use mathlib.Core.List.{List, [], _∷_}
 use Prim.Native.Nat.{ℕ, _+_, _*_, _<_, _≤_}
 use lib.Dec.{eqb, ltb}
 use lib.ListN.{length, getD, set}
 use Rattle.places.specs.Limits.{mostFaces}
-use Rattle.places.specs.Loops.{pick, anyOf}
+use Rattle.places.specs.Loops.{anyOf, oneIf}
 use Rattle.places.specs.Ring.{sides}
-use Rattle.exact.specs.Sides.{bit, Closed}
+use Rattle.exact.specs.Sides.{Closed}
 use Rattle.exact.specs.Facing.{reversedBy, Twice, Share, Group, Made}
 use Rattle.exact.proofs.Forced.{differ}
 use Rattle.cell.specs.Faces.{facesOf}
@@ -33,19 +33,19 @@ pub record Ground (number : List ℕ) (k : ℕ) (table corners ends : List ℕ) 
 -- ---- one side
 -- of the marks x and y at a side of the face f that of the other face
 abbrev pub otherOf : ℕ → ℕ → ℕ → ℕ
-otherOf x y f = pick (eqb (faceOf x) f) y x
+otherOf x y f = cond (eqb (faceOf x) f) y x
 
 -- the mark of the neighbour over f's side from a to b; 0 where a is b
 unfoldable pub neighbourOf : (ℕ → ℕ → ℕ) → List ℕ → ℕ → ℕ → ℕ → ℕ
-neighbourOf at table a b f = pick (eqb a b) 0 (otherOf (firstAt at table a b) (secondAt at table a b) f)
+neighbourOf at table a b f = cond (eqb a b) 0 (otherOf (firstAt at table a b) (secondAt at table a b) f)
 
 -- whether a face with the code w, as it is turned, runs its side from a to b up, from the lower vertex to the higher
 abbrev pub upOf : ℕ → ℕ → ℕ → Bool
-upOf a b w = pick (eqb w 2) (ltb b a) (ltb a b)
+upOf a b w = cond (eqb w 2) (ltb b a) (ltb a b)
 
 -- the code that turns the face of the mark m against one that runs the side up, or down
 abbrev pub againstOf : ℕ → Bool → ℕ
-againstOf m up = pick (Bool·beq (downOf m) up) 1 2
+againstOf m up = cond (Bool·beq (downOf m) up) 1 2
 
 -- after the neighbour of the mark m was asked: it was reached before, or it is now, and stands last in the list
 pub data Met (t list : List ℕ) (tail m : ℕ) (up : Bool) (t′ list′ : List ℕ) (tail′ : ℕ) : Type 0 where
@@ -77,7 +77,7 @@ pub record Going (fs : List (List ℕ)) (t : List ℕ) : Type 0 where
 -- how many are not reached
 abbrev pub unreached : List ℕ → ℕ
 unreached [] = 0
-unreached (x ∷ t) = bit (eqb x 0) + unreached t
+unreached (x ∷ t) = oneIf (eqb x 0) + unreached t
 
 -- f stands in the list before place n
 pub record Entry (list : List ℕ) (n f : ℕ) : Type 0 where

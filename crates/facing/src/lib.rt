@@ -12,7 +12,7 @@ ghost use Rattle.places.specs.Limits.{mostVertices, mostFaces, mostCorners};
 ghost use Rattle.places.specs.Lists.{Each};
 ghost use Rattle.places.specs.Ring.{sides};
 ghost use Rattle.places.specs.Stored.{joined};
-ghost use Rattle.exact.specs.Sides.{bit};
+ghost use Rattle.places.specs.Loops.{oneIf};
 ghost use Rattle.exact.specs.Facing.{faceBy, reversedBy, howMany, Made};
 ghost use Rattle.cell.specs.Faces.{facesOf, rises};
 ghost use Rattle.side_table.specs.Table.{Blank};
@@ -292,7 +292,7 @@ fn clash_faces(
 // A face in place, reversed where its code is 2; how many were: 1 or 0.
 fn reverse_by_code(face: &mut [u32], w: u8) -> usize
     ensures turned { λ _. ⌜ now (face .exit) ≡ faceBy (eqb w 2) (now (face .entry)) ⌝ }
-    ensures count { λ r. ⌜ r ≡ bit (eqb w 2) ⌝ }
+    ensures count { λ r. ⌜ r ≡ oneIf (eqb w 2) ⌝ }
 {
     if w != 2 {
         return 0;

@@ -5,7 +5,7 @@ use Prim.Native.Nat.{ℕ, _<_}
 use native.Mathlib.Omega.{arith}
 use lib.ListN.{length, getD, length-map}
 use Rattle.places.proofs.Lists.{map-at}
-use Rattle.places.specs.Ring.{foldPairs}
+use Rattle.places.specs.Loops.{foldList}
 use Rattle.floats.specs.F64.{zero64}
 use Rattle.flat.specs.Points.{Point, pointBy, vertexOf, cornersOf}
 use Rattle.flat.specs.Flat.{newellOf}
@@ -21,6 +21,6 @@ module _ (vs : List Point) (face : List ℕ) where
 
 -- the Newell sums of a face of no corners
 pub no-corners : (vs : List Point) (face : List ℕ) → length face ≡ 0 → pointBy 3 (λ k. zero64) ≡ newellOf (cornersOf vs face)
-unfolding newellOf cornersOf foldPairs
+unfolding newellOf cornersOf foldList
 no-corners vs [] h = refl
 no-corners vs (c ∷ cs) h = absurd (omega arith)

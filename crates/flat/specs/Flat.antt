@@ -1,11 +1,10 @@
 -- Flat rules: cross2, the Newell sums, the dominant axis, the projection, the signed area and its sense, and where two segments cross.
 -- Every step is one operation of f64, in the order that the Rust has.
 use Prim.Native.Nat.{ℕ}
-use mathlib.Core.Bool.{_&&_}
+use mathlib.Core.Bool.{_&&_, cond}
 use mathlib.Core.List.{List, [], _∷_, map, reverse}
 use lib.Dec.{eqb}
 use lib.Ieee.{Float, le, lt, eq}
-use Rattle.places.specs.Loops.{pick}
 use Rattle.places.specs.Ring.{foldSides}
 use Rattle.floats.specs.F64.{_+f_, _-f_, _*f_, _/f_, zero64, two64}
 use Rattle.floats.specs.Pick.{magnitudeOf}
@@ -34,11 +33,11 @@ axisOf n =
     let x = magnitudeOf (at n 0) in
     let y = magnitudeOf (at n 1) in
     let z = magnitudeOf (at n 2) in
-    pick (le y x && le z x) 0 (pick (le z y) 1 2)
+    cond (le y x && le z x) 0 (cond (le z y) 1 2)
 
 -- project2: the point without that axis
 unfoldable pub project2Of : Point → ℕ → Point
-project2Of p axis = pick (eqb axis 0) (at p 1 ∷ at p 2 ∷ []) (pick (eqb axis 1) (at p 0 ∷ at p 2 ∷ []) (at p 0 ∷ at p 1 ∷ []))
+project2Of p axis = cond (eqb axis 0) (at p 1 ∷ at p 2 ∷ []) (cond (eqb axis 1) (at p 0 ∷ at p 2 ∷ []) (at p 0 ∷ at p 1 ∷ []))
 
 -- the point of a vertex in the plane without an axis, and those of a ring's corners
 unfoldable pub pointOf : List Point → ℕ → ℕ → Point
@@ -61,7 +60,7 @@ signedAreaOf ps = summedAreaOf ps /f two64
 
 -- the outline turned counterclockwise: reversed where its signed area is below 0
 unfoldable pub ccwOf : List Point → List Point
-ccwOf ps = pick (lt (signedAreaOf ps) zero64) (reverse ps) ps
+ccwOf ps = cond (lt (signedAreaOf ps) zero64) (reverse ps) ps
 
 -- ---- segment_intersection: where the line from a to b meets that from p to q; q when the denominator is 0
 unfoldable pub crossingOf : Point → Point → Point → Point → Point
@@ -72,4 +71,4 @@ crossingOf a b p q =
     let dpy = at q 1 -f at p 1 in
     let denom = dax *f dpy -f day *f dpx in
     let t = ((at p 0 -f at a 0) *f dpy -f (at p 1 -f at a 1) *f dpx) /f denom in
-    pick (eq denom zero64) q ((at a 0 +f t *f dax) ∷ (at a 1 +f t *f day) ∷ [])
+    cond (eq denom zero64) q ((at a 0 +f t *f dax) ∷ (at a 1 +f t *f day) ∷ [])

@@ -1,11 +1,11 @@
 -- How an entry answers: the value where nothing is refused, else the refusal's number and no value.
 -- A call that a check refuses leaves every lent list as it was.
+use mathlib.Core.Bool.{cond}
 use Prim.Native.Nat.{ℕ}
 use mathlib.Core.Path.{_≡_}
 use lib.Dec.{eqb}
 use lib.ListN.{getD}
 use mathlib.Core.List.{[]}
-use Rattle.places.specs.Loops.{pick}
 use Rattle.flat.specs.Points.{Point, Box, at}
 use Rattle.geometry.specs.declared.Point3.{Point3}
 use Rattle.geometry.specs.declared.Point2.{Point2}
@@ -14,7 +14,7 @@ use Rattle.geometry.specs.declared.Bounds2.{Bounds2}
 
 -- the answer, or what is answered for the refusal's number
 abbrev pub answered : {A : Type 0} → ℕ → A → (ℕ → A) → A
-answered refusal answer refused = pick (eqb refusal 0) answer (refused refusal)
+answered refusal answer refused = cond (eqb refusal 0) answer (refused refusal)
 
 -- a promise that is one equation with one named answer allows one outcome: two that it allows are equal
 abbrev pub OneAnswer : Type 1

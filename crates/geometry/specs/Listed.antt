@@ -2,12 +2,12 @@
 -- and its values.
 use Prim.Native.Nat.{ℕ}
 use mathlib.Core.Path.{_≡_}
-use mathlib.Core.Bool.{Bool, true, false, _||_}
+use mathlib.Core.Bool.{Bool, true, false, _||_, cond}
 use mathlib.Core.List.{List, [], _∷_, _++_}
 use lib.Dec.{ltb, eqb}
 use lib.ListN.{length, drop, replicate}
 use lib.Ieee.{Float}
-use Rattle.places.specs.Loops.{pick}
+use Rattle.places.specs.Loops.{oneIf}
 use Rattle.floats.specs.F64.{zero64}
 use Rattle.flat.specs.Points.{at}
 use Rattle.geometry.specs.declared.Number.{Number}
@@ -52,11 +52,7 @@ told code xs ns = (code, xs, ns)
 -- Where either is too short the code is 6; on every refusal both lists are as they were.
 abbrev pub written : Listed → List Float → List ℕ → Reply
 written (refused why) xs ns = told why xs ns
-written (values vs ms) xs ns = pick (tooShort vs xs || tooShort ms ns) (told 6 xs ns) (told 0 (front vs xs) (front ms ns))
-
--- 1 for yes, 0 for no
-abbrev pub one : Bool → ℕ
-one b = pick b 1 0
+written (values vs ms) xs ns = cond (tooShort vs xs || tooShort ms ns) (told 6 xs ns) (told 0 (front vs xs) (front ms ns))
 
 -- what is known of a cell's shape as a number, and by a number: 0 convex, 1 concave, any other number nothing
 abbrev pub shapeNumber : Convexity → ℕ
@@ -65,7 +61,7 @@ shapeNumber Concave = 1
 shapeNumber Unknown = 2
 
 unfoldable pub shapeKnown : ℕ → Convexity
-shapeKnown shape = pick (eqb shape 0) Convex (pick (eqb shape 1) Concave Unknown)
+shapeKnown shape = cond (eqb shape 0) Convex (cond (eqb shape 1) Concave Unknown)
 
 -- ---- the answers, one by one
 abbrev pub ofNumber : Number → Listed
@@ -73,7 +69,7 @@ ofNumber (Number.Is x) = values (x ∷ []) []
 ofNumber (Number.Refused why) = refused why
 
 abbrev pub ofTruth : Truth → Listed
-ofTruth (Truth.Is b) = values [] (one b ∷ [])
+ofTruth (Truth.Is b) = values [] (oneIf b ∷ [])
 ofTruth (Truth.Refused why) = refused why
 
 abbrev pub ofCount : Count → Listed
@@ -104,7 +100,7 @@ ofDone (Done.Refused why) = refused why
 
 -- triangles, closed, short, contained; and the volume
 abbrev pub ofSurveyed : Surveyed → Listed
-ofSurveyed (Surveyed.Is s) = values (s .volume ∷ []) (s .triangles ∷ one (s .closed) ∷ s .short ∷ s .contained ∷ [])
+ofSurveyed (Surveyed.Is s) = values (s .volume ∷ []) (s .triangles ∷ oneIf (s .closed) ∷ s .short ∷ s .contained ∷ [])
 ofSurveyed (Surveyed.Refused why) = refused why
 
 -- how many vertices, corners and faces, and what is known of the shape
@@ -123,7 +119,7 @@ ofFacePlane f = planeListed (f .answer) (f .plane .n) (f .plane .d)
 -- how many points are left, 0 for nothing, and 1 where they stand in the second work list
 abbrev pub ofClipped : Clipped → Listed
 ofClipped Clipped.Nothing = values [] (0 ∷ 0 ∷ [])
-ofClipped (Clipped.Outline n second) = values [] (n ∷ one second ∷ [])
+ofClipped (Clipped.Outline n second) = values [] (n ∷ oneIf second ∷ [])
 ofClipped (Clipped.Refused why) = refused why
 
 -- ---- answers beside other lent lists
@@ -133,7 +129,7 @@ doneTold a = (written (ofDone (a .0)) [] [] .0, a .1)
 
 -- a fixed shape in one list: 1 where it has not just so many numbers
 abbrev pub ofShape : ℕ → List Float → Listed → Listed
-ofShape n p answer = pick (eqb (length p) n) answer (refused 1)
+ofShape n p answer = cond (eqb (length p) n) answer (refused 1)
 
 -- a work list after a clipping that cannot be told: +0 throughout where an outline was left, else as it was
 abbrev pub hidden : Clipped → List Float → List Float
@@ -147,8 +143,8 @@ clippingTold c shown =
     let short = ltb (length shown) 2 in (
       written (ofClipped (c .0)) [] shown .0,
       written (ofClipped (c .0)) [] shown .2,
-      pick short (hidden (c .0) (c .1)) (c .1),
-      pick short (hidden (c .0) (c .2)) (c .2),
+      cond short (hidden (c .0) (c .1)) (c .1),
+      cond short (hidden (c .0) (c .2)) (c .2),
     )
 
 -- a measure, told by one number in `out`: the code, that list, and both work lists
@@ -159,8 +155,8 @@ measureTold m out = (written (ofNumber (m .0)) out [] .0, written (ofNumber (m .
 abbrev pub trianglesTold : List Float → List ℕ → List ℕ → ℕ → List (List ℕ) → List ℕ → ℕ × List (List ℕ) × List ℕ
 trianglesTold coords corners ends k out count =
     let short = ltb (length count) 1 in
-    let a = trianglesAnswer coords corners ends k (pick short [] out) in
-    (written (ofCount (a .0)) [] count .0, pick short out (a .1), written (ofCount (a .0)) [] count .2)
+    let a = trianglesAnswer coords corners ends k (cond short [] out) in
+    (written (ofCount (a .0)) [] count .0, cond short out (a .1), written (ofCount (a .0)) [] count .2)
 
 -- the code of turn_faces where its count has no room: the refusal, else 6
 abbrev pub codeWithoutRoom : Done → ℕ

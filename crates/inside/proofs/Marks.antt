@@ -2,7 +2,7 @@
 -- of `point_in_phed` takes in one face after the other.
 use mathlib.Core.Path.{_≡_, refl, sym, _∙_}
 use mathlib.Core.Logic.{_≢_}
-use mathlib.Core.Bool.{Bool, true, false}
+use mathlib.Core.Bool.{Bool, true, false, cond}
 use mathlib.Core.List.{List, [], _∷_, _++_, append-nil, append-assoc}
 use Prim.Native.Nat.{ℕ, suc, _+_, _-_, _<_, _≤_}
 use native.Mathlib.Omega.{arith}
@@ -10,7 +10,7 @@ use lib.Dec.{eqb}
 use lib.ListN.{length, getD, take, drop, drop-of-length-le, length-drop}
 use lib.Seq.{drop-drop, getD-drop}
 use borrow.Author.Tests.{eq-eqb, ne-eqb, eqb-false}
-use Rattle.places.specs.Loops.{pick, foldList}
+use Rattle.places.specs.Loops.{foldList}
 use Rattle.places.proofs.Loops.{drop-more}
 use Rattle.places.proofs.Lists.{each-nil, each-cons, each-head, each-tail}
 use Rattle.flat.specs.Points.{Point}
@@ -37,7 +37,7 @@ unfolding beforeMark
 before-below [] = omega arith
 before-below (c ∷ cs) = go (eqb c faceEnd) (before-below cs)
   where
-    go : (b : Bool) → beforeMark cs ≤ length cs → pick b 0 (suc (beforeMark cs)) ≤ suc (length cs)
+    go : (b : Bool) → beforeMark cs ≤ length cs → cond b 0 (suc (beforeMark cs)) ≤ suc (length cs)
     go true h = omega arith
     go false h = omega arith
 
@@ -56,8 +56,8 @@ first-face face [] = rw (append-nil face)
 first-face face (c ∷ cs) = go (eqb c faceEnd) (first-face (face ++ c ∷ []) cs ∙ rw append-assoc)
   where
     go : (b : Bool) → markedFrom (face ++ c ∷ []) cs ≡ (face ++ c ∷ take (beforeMark cs) cs) ∷ afterMark (drop (beforeMark cs) cs)
-        → pick b (face ∷ markedFrom [] cs) (markedFrom (face ++ c ∷ []) cs)
-        ≡ (face ++ take (pick b 0 (suc (beforeMark cs))) (c ∷ cs)) ∷ afterMark (drop (pick b 0 (suc (beforeMark cs))) (c ∷ cs))
+        → cond b (face ∷ markedFrom [] cs) (markedFrom (face ++ c ∷ []) cs)
+        ≡ (face ++ take (cond b 0 (suc (beforeMark cs))) (c ∷ cs)) ∷ afterMark (drop (cond b 0 (suc (beforeMark cs))) (c ∷ cs))
     go true r = rw (append-nil face)
     go false r = r
 
@@ -97,7 +97,7 @@ module _ (vs : List Point) where
   open-inside [] m = each-nil
   open-inside (c ∷ cs) m = go (eqb c faceEnd) refl (open-inside cs (each-tail m))
     where
-      go : (b : Bool) → eqb c faceEnd ≡ b → Inside vs (take (beforeMark cs) cs) → Inside vs (take (pick b 0 (suc (beforeMark cs))) (c ∷ cs))
+      go : (b : Bool) → eqb c faceEnd ≡ b → Inside vs (take (beforeMark cs) cs) → Inside vs (take (cond b 0 (suc (beforeMark cs))) (c ∷ cs))
       go true e r = each-nil
       go false e r = each-cons (each-head m (eqb-false c faceEnd e)) r
 

@@ -6,8 +6,9 @@ use Prim.Native.Nat.{ℕ, _+_, _-_, _<_, _≤_}
 use native.Mathlib.Omega.{arith}
 use lib.ListN.{length, getD, drop, drop-of-length-le, length-map}
 use lib.Ieee.{Float, ofBits, mul, lt, le}
-use Rattle.places.specs.Ring.{walk, sides, foldPairs}
+use Rattle.places.specs.Ring.{walk, sides}
 use Rattle.places.proofs.Loops.{drop-more}
+use Rattle.places.specs.Loops.{foldList}
 use Rattle.places.proofs.Lists.{map-at}
 use Rattle.floats.specs.Pick.{magnitudeOf, largestOf}
 use Rattle.flat.specs.Points.{Point, at, cornersOf}
@@ -26,13 +27,13 @@ module _ (vs : List Point) (axis : ℕ) (face : List ℕ) where
 
 -- ---- a face of no corners: no ray crosses it, as its normal is three zeros
 pub none-crossed : (vs : List Point) (p : Point) (face : List ℕ) → length face ≡ 0 → false ≡ rayCrosses vs p face
-unfolding rayCrosses alongOf newellOf cornersOf foldPairs ofBits mul le magnitudeOf largestOf
+unfolding rayCrosses alongOf newellOf cornersOf foldList ofBits mul le magnitudeOf largestOf
 none-crossed vs p [] h = refl
 none-crossed vs p (c ∷ cs) h = absurd (omega arith)
 
 -- and nothing is in its outline
 pub no-outline : (vs : List Point) (axis : ℕ) (face : List ℕ) (p : Point) → length face ≡ 0 → false ≡ inOutline p (pointsOf vs axis face)
-unfolding inOutline pointsOf foldPairs
+unfolding inOutline pointsOf foldList
 no-outline vs axis [] p h = refl
 no-outline vs axis (c ∷ cs) p h = absurd (omega arith)
 

@@ -1,11 +1,10 @@
 -- ray_crosses_face: whether the ray from a point along +x crosses a face. Every step
 -- is one operation of f64, in the order that the Rust has.
 use Prim.Native.Nat.{ℕ}
-use mathlib.Core.Bool.{Bool, true, false, not, _&&_}
+use mathlib.Core.Bool.{Bool, true, false, not, _&&_, cond}
 use mathlib.Core.List.{List, [], _∷_}
 use lib.ListN.{getD}
 use lib.Ieee.{Float, lt, le}
-use Rattle.places.specs.Loops.{pick}
 use Rattle.places.specs.Ring.{foldSides}
 use Rattle.floats.specs.F64.{_+f_, _-f_, _*f_, _/f_, zero64, epsilon64}
 use Rattle.floats.specs.Pick.{magnitudeOf, largestOf}
@@ -30,7 +29,7 @@ passes p a b = differ (lt (at p 1) (at a 1)) (lt (at p 1) (at b 1)) && lt (at p 
 
 -- each side that passes turns the answer round
 unfoldable pub passSide : Point → Point → Point → Bool → Bool
-passSide p a b inside = pick (passes p a b) (not inside) inside
+passSide p a b inside = cond (passes p a b) (not inside) inside
 
 -- p is in the outline: an odd number of sides passes it
 unfoldable pub inOutline : Point → List Point → Bool
@@ -58,4 +57,4 @@ rayCrosses vs p face =
     let n = newellOf (cornersOf vs face) in
     let t = distanceAhead p n (getD (cornersOf vs face) 0 []) in
     let hit = inOutline (project2Of (ahead p t) (axisOf n)) (pointsOf vs (axisOf n) face) in
-    pick (alongOf n) false (pick (le t zero64) false hit)
+    cond (alongOf n) false (cond (le t zero64) false hit)

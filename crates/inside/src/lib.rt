@@ -10,7 +10,7 @@ ghost use Rattle.flat.specs.Flat.{pointsOf};
 ghost use Rattle.cell.specs.Faces.{facesOf};
 ghost use Rattle.cell.specs.Steps.{Sound};
 ghost use Rattle.inside.specs.Ray.{meetsAt, passes, passSide, inOutline, alongOf, distanceAhead, rayCrosses};
-ghost use Rattle.places.specs.Loops.{pick, countOf};
+ghost use Rattle.places.specs.Loops.{countOf};
 ghost use Rattle.inside.specs.Inside.{crossFace, crossMarked, containsOf, holds, phedContainsOf};
 ghost use Rattle.inside.specs.Steps.{MarkedInside, beforeMark};
 
@@ -181,13 +181,6 @@ pub fn point_in_phed(coords: &[f64], cs: &[u32], p: [f64; 3]) -> bool
     inside
 }
 
-// 1 for yes, 0 for no.
-fn one_if(b: bool) -> usize
-    ensures { λ r. ⌜ (r ≡ pick b 1 0) × (r ≤ 1) ⌝ }
-{
-    if b { 1 } else { 0 }
-}
-
 // How many of the query points the cell contains.
 pub fn count_contained(coords: &[f64], corners: &[u32], ends: &[u32], queries: &[f64]) -> usize
     requires { ⌜ Sound (now coords) (now corners) (now ends) ⌝ }
@@ -199,7 +192,7 @@ pub fn count_contained(coords: &[f64], corners: &[u32], ends: &[u32], queries: &
     let mut i = 0;
     while i < n {
         let p = flat::space::vertex(queries, i);
-        found += one_if(contains(coords, corners, ends, p));
+        found += places::one_if(contains(coords, corners, ends, p));
         i += 1;
     }
     found

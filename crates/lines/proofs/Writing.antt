@@ -1,7 +1,7 @@
 -- Text put behind text is one text (`then`), for every function that puts a line together; and the digits of a number, one after the
 -- other, for `put_decimal` and `put_hex`.
 use mathlib.Core.Path.{_≡_, refl, sym, ap, _∙_}
-use mathlib.Core.Bool.{Bool, true, false}
+use mathlib.Core.Bool.{Bool, true, false, cond}
 use mathlib.Core.List.{List, [], _∷_, _++_}
 use Prim.Native.Nat.{ℕ, zero, suc, _+_, _*_, _/_, _%_, _^_, _-_, _<_, _≤_}
 use native.Mathlib.Nat.{add-zero, add-suc, suc-add, pow-suc}
@@ -11,7 +11,6 @@ use lib.ListN.{length, getD, take, set, length-append}
 use lib.Seq.{sets, take-suc, length-take-le}
 use lib.Dec.{ltb}
 use borrow.Author.Tests.{lt-ltb, le-ltb}
-use Rattle.places.specs.Loops.{pick}
 use Rattle.lines.specs.Text.{Put, decimal, decimalOf, hexOf, digitOf}
 
 pub sets-append : (l : List ℕ) (i : ℕ) (xs ys : List ℕ) → sets l i (xs ++ ys) ≡ sets (sets l i xs) (i + length xs) ys
@@ -35,7 +34,7 @@ sets-more l at s i h =
     rw (add-one i, take-suc s i 0, sets-append l at (take i s) (getD s i 0 ∷ []), e)
 
 -- digits: there are no more than the bound, and a larger bound gives no more
-short : (b : Bool) (x y : ℕ) (l : List ℕ) (k : ℕ) → length l ≤ k → length (pick b (x ∷ []) (l ++ (y ∷ []))) ≤ suc k
+short : (b : Bool) (x y : ℕ) (l : List ℕ) (k : ℕ) → length l ≤ k → length (cond b (x ∷ []) (l ++ (y ∷ []))) ≤ suc k
 short true x y l k h = omega arith
 short false x y l k h = simp length-append (omega arith)
 
@@ -44,8 +43,8 @@ unfolding decimal
 decimal-length zero n = omega arith
 decimal-length (suc k) n = short (ltb n 10) (48 + n) (48 + n % 10) (decimal k (n / 10)) k (decimal-length k (n / 10))
 
-alike : (b : Bool) (x y : ℕ) (l m : List ℕ) → l ≡ m → pick b (x ∷ []) (l ++ (y ∷ [])) ≡ pick b (x ∷ []) (m ++ (y ∷ []))
-alike b x y l m e = ap (λ (o : List ℕ). pick b (x ∷ []) (o ++ (y ∷ []))) e
+alike : (b : Bool) (x y : ℕ) (l m : List ℕ) → l ≡ m → cond b (x ∷ []) (l ++ (y ∷ [])) ≡ cond b (x ∷ []) (m ++ (y ∷ []))
+alike b x y l m e = ap (λ (o : List ℕ). cond b (x ∷ []) (o ++ (y ∷ []))) e
 
 tenth : (n p : ℕ) → n < p * 10 → n / 10 < p
 tenth n p h = omega arith

@@ -4,11 +4,10 @@ use Prim.Native.Char.{code}
 use Prim.Native.String.{String, [] as []ᵗ, _∷_ as _∷ᵗ_}
 use mathlib.Core.Path.{_≡_}
 use mathlib.Core.List.{List, [], _∷_, _++_}
-use mathlib.Core.Bool.{Bool, true, false}
+use mathlib.Core.Bool.{Bool, true, false, cond}
 use lib.ListN.{length}
 use lib.Seq.{sets}
 use lib.Dec.{ltb}
-use Rattle.places.specs.Loops.{pick}
 
 -- the bytes of a quoted text, each of whose characters is one byte
 abbrev pub bytesOf : String → List ℕ
@@ -23,7 +22,7 @@ pub record Put (before : List ℕ) (at : ℕ) (text : List ℕ) (after : List �
 -- the decimal digits of n, of which there are k at most
 unfoldable pub decimal : ℕ → ℕ → List ℕ
 decimal zero n = []
-decimal (suc k) n = pick (ltb n 10) ((48 + n) ∷ []) (decimal k (n / 10) ++ ((48 + n % 10) ∷ []))
+decimal (suc k) n = cond (ltb n 10) ((48 + n) ∷ []) (decimal k (n / 10) ++ ((48 + n % 10) ∷ []))
 
 -- the decimal digits of a number of 64 bits
 abbrev pub decimalOf : ℕ → List ℕ
@@ -31,7 +30,7 @@ decimalOf n = decimal 20 n
 
 -- 0 to 9, then A to F
 abbrev pub digitOf : ℕ → ℕ
-digitOf d = pick (ltb d 10) (48 + d) (55 + d)
+digitOf d = cond (ltb d 10) (48 + d) (55 + d)
 
 -- the last k digits of n in base 16
 unfoldable pub hexOf : ℕ → ℕ → List ℕ

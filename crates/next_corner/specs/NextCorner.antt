@@ -1,11 +1,11 @@
 -- Which corner of a ring is cut off next. `ps` are the points of the ring's corners in the plane, in order;
 -- `dir` is the direction, +1 or −1.
 use Prim.Native.Nat.{ℕ}
-use mathlib.Core.Bool.{Bool, false, not, _&&_}
+use mathlib.Core.Bool.{Bool, false, not, _&&_, cond}
 use mathlib.Core.List.{List, []}
 use lib.ListN.{length, getD}
 use lib.Ieee.{Float, neg, lt, le, eq}
-use Rattle.places.specs.Loops.{pick, anyOf, firstPlace}
+use Rattle.places.specs.Loops.{anyOf, firstPlace}
 use Rattle.places.specs.Ring.{before, after}
 use Rattle.places.specs.declared.Found.{Found}
 use Rattle.places.specs.declared.Found.the-variants.{At, Nothing}
@@ -15,7 +15,7 @@ use Rattle.flat.specs.Flat.{cross2Of, summedAreaOf}
 
 -- the direction of a ring: +1 if its summed area is ≥ 0, else −1
 unfoldable pub directionOf : List Point → Float
-directionOf ps = pick (le zero64 (summedAreaOf ps)) one64 (neg one64)
+directionOf ps = cond (le zero64 (summedAreaOf ps)) one64 (neg one64)
 
 -- ---- three points
 -- turn × direction ≥ 0 at the corner b between a and c
@@ -47,7 +47,7 @@ turnsAt ps dir k = turnsOf (before [] k ps) (getD ps k []) (after [] k ps) dir
 unfoldable pub earAt : List Point → Float → ℕ → Bool
 earAt ps dir k =
     let blocked = blockedOf ps (before [] k ps) (getD ps k []) (after [] k ps) dir in
-    pick (turnsAt ps dir k) (not blocked) false
+    cond (turnsAt ps dir k) (not blocked) false
 
 -- ---- the next corner: corners are tried in order from place 0
 unfoldable pub findEar : List Point → Float → Found

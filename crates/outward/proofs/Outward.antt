@@ -2,7 +2,7 @@
 -- The loop of `into_ccw` uses the first; the others say to a reader that `outwardCorners` is what its name says.
 use mathlib.Core.Path.{_≡_, refl, _∙_, ap}
 use mathlib.Core.Logic.{_⊎_, inl, inr, ⊎-elim}
-use mathlib.Core.Bool.{Bool, true, false}
+use mathlib.Core.Bool.{Bool, true, false, cond}
 use mathlib.Core.List.{List, [], _∷_, _++_, map, reverse, append-assoc}
 use Prim.Native.Nat.{ℕ, _+_, _-_, _<_}
 use native.Mathlib.Nat.{sub-zero}
@@ -11,7 +11,7 @@ use lib.Dec.{T, eqb→eq}
 use lib.ListN.{length, getD, length-append, length-reverse}
 use lib.Seq.{slice, length-slice, take-at, drop-at}
 use lib.Ieee.{Float, lt}
-use Rattle.places.specs.Loops.{pick, anyOf}
+use Rattle.places.specs.Loops.{anyOf}
 use Rattle.places.specs.Lists.{Each}
 use Rattle.places.specs.Stored.{joined}
 use Rattle.places.proofs.Lists.{each-nil, each-append, each-slice, map-at}
@@ -31,7 +31,7 @@ module _ (vs : List Point) (reference : Point) (face : List ℕ) where
   unfolding outwardOf
   outward-either = go (lt (awayOf vs reference face) zero64)
     where
-      go : (b : Bool) → (pick b (reverse face) face ≡ face) ⊎ (pick b (reverse face) face ≡ reverse face)
+      go : (b : Bool) → (cond b (reverse face) face ≡ face) ⊎ (cond b (reverse face) face ≡ reverse face)
       go true = inr refl
       go false = inl refl
 

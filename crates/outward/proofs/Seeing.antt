@@ -1,8 +1,7 @@
 -- Where nothing new is seen it does not matter whether the vertex is a corner of the face: this is why `look` need not search the face
 -- there.
 use mathlib.Core.Path.{_≡_, refl, sym}
-use mathlib.Core.Bool.{Bool, true, false, true≢false, _&&_, Bool·beq}
-use Rattle.places.specs.Loops.{pick}
+use mathlib.Core.Bool.{Bool, true, false, true≢false, _&&_, Bool·beq, cond}
 use Rattle.outward.specs.declared.Seen.{Seen}
 use Rattle.outward.specs.Steps.{sameSeen}
 
@@ -22,6 +21,6 @@ same-is : (a b : Seen) → sameSeen a b ≡ true → a ≡ b
 same-is a b h = let e = both-same (a .above) (a .below) (b .above) (b .below) h in rw (e .0, e .1)
 
 -- what was seen before is the answer
-pub nothing-new : (corner : Bool) (next seen : Seen) → sameSeen next seen ≡ true → seen ≡ pick corner seen next
+pub nothing-new : (corner : Bool) (next seen : Seen) → sameSeen next seen ≡ true → seen ≡ cond corner seen next
 nothing-new true next seen h = refl
 nothing-new false next seen h = sym (same-is next seen h)

@@ -1,12 +1,12 @@
 -- compute_convexity: whether each face of a cell has all other vertices on one side. Every
 -- step is one operation of f64, in the order that the Rust has.
 use Prim.Native.Nat.{ℕ, _+_}
-use mathlib.Core.Bool.{Bool, not, _&&_, _||_}
+use mathlib.Core.Bool.{Bool, not, _&&_, _||_, cond}
 use mathlib.Core.List.{List, [], _∷_}
 use lib.Dec.{leb, ltb, eqb}
 use lib.ListN.{length, getD}
 use lib.Ieee.{Float, binary64, ofBits, lt, neg}
-use Rattle.places.specs.Loops.{pick, anyOf}
+use Rattle.places.specs.Loops.{anyOf}
 use Rattle.floats.specs.F64.{_+f_, _*f_, one64}
 use Rattle.floats.specs.Pick.{magnitudeOf, largestOf}
 use Rattle.flat.specs.Points.{Point, at, cornersOf}
@@ -44,7 +44,7 @@ unfoldable pub otherVerticesFrom : List ℕ → ℕ → List Point → List Poin
 otherVerticesFrom face v [] = []
 otherVerticesFrom face v (p ∷ vs) =
     let rest = otherVerticesFrom face (v + 1) vs in
-    pick (hasCorner face v) rest (p ∷ rest)
+    cond (hasCorner face v) rest (p ∷ rest)
 
 abbrev pub otherVertices : List Point → List ℕ → List Point
 otherVertices vs face = otherVerticesFrom face 0 vs

@@ -1,9 +1,9 @@
 -- into_ccw: the faces of a cell turned outward. Every step is one operation of f64, in the order that the Rust has.
+use mathlib.Core.Bool.{cond}
 use Prim.Native.Nat.{ℕ}
 use mathlib.Core.List.{List, [], map, reverse}
 use lib.ListN.{getD}
 use lib.Ieee.{Float, lt}
-use Rattle.places.specs.Loops.{pick}
 use Rattle.places.specs.Stored.{joined}
 use Rattle.floats.specs.F64.{zero64}
 use Rattle.flat.specs.Points.{Point, minusOf, cornersOf, centroidOf}
@@ -18,7 +18,7 @@ awayOf vs reference face =
 
 -- a face turned outward: reversed where that is negative
 unfoldable pub outwardOf : List Point → Point → List ℕ → List ℕ
-outwardOf vs reference face = pick (lt (awayOf vs reference face) zero64) (reverse face) face
+outwardOf vs reference face = cond (lt (awayOf vs reference face) zero64) (reverse face) face
 
 -- into_ccw: the corner list when each face is turned away from the vertex centroid
 unfoldable pub outwardCorners : List Point → List (List ℕ) → List ℕ

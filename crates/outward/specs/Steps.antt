@@ -1,7 +1,6 @@
 -- What functions below the gatehouse ask of and promise each other; no contract of a public entry speaks of these.
-use mathlib.Core.Bool.{Bool, true, _&&_, Bool·beq}
+use mathlib.Core.Bool.{Bool, true, _&&_, Bool·beq, cond}
 use lib.Ieee.{Float}
-use Rattle.places.specs.Loops.{pick}
 use Rattle.flat.specs.Points.{Point}
 use Rattle.outward.specs.Convexity.{above, below}
 use Rattle.outward.specs.declared.Seen.{Seen}
@@ -10,8 +9,8 @@ use Rattle.outward.specs.declared.Seen.{Seen}
 unfoldable pub seeOf : Point → Float → Float → Point → Seen → Seen
 seeOf n d eps p seen =
     record {
-      above = pick (above n d eps p) true (seen .above);
-      below = pick (below n d eps p) true (seen .below);
+      above = cond (above n d eps p) true (seen .above);
+      below = cond (below n d eps p) true (seen .below);
     }
 
 -- whether the same was seen

@@ -1,10 +1,10 @@
 // Convexity of a cell, and its faces turned outward.
 ghost use mathlib.Core.Path.{_≡_};
-ghost use mathlib.Core.Bool.{Bool, false, _&&_};
+ghost use mathlib.Core.Bool.{Bool, false, _&&_, cond};
 ghost use Prim.Native.Nat.{ℕ, _<_};
 ghost use lib.ListN.{length};
 ghost use Rattle.places.specs.Lent.{old, new};
-ghost use Rattle.places.specs.Loops.{pick, anyOf};
+ghost use Rattle.places.specs.Loops.{anyOf};
 ghost use Rattle.flat.specs.Points.{verticesOf, vertexOf};
 ghost use Rattle.flat.specs.Steps.{Inside};
 ghost use Rattle.cell.specs.Faces.{facesOf};
@@ -79,7 +79,7 @@ fn same(a: Seen, b: Seen) -> bool
 // The same for the vertex v; a corner of the face is passed over. The face is searched only where something new was seen, which is seldom.
 fn look(coords: &[f64], face: &[u32], v: usize, n: [f64; 3], d: f64, eps: f64, seen: Seen) -> Seen
     requires { ⌜ v < length (verticesOf (now coords)) ⌝ }
-    ensures { λ r. ⌜ r ≡ pick (hasCorner (old face) v) seen (seeOf n d eps (vertexOf (verticesOf (old coords)) v) seen) ⌝ }
+    ensures { λ r. ⌜ r ≡ cond (hasCorner (old face) v) seen (seeOf n d eps (vertexOf (verticesOf (old coords)) v) seen) ⌝ }
 {
     let next = see(n, d, eps, flat::space::vertex(coords, v), seen);
     if same(next, seen) {

@@ -2,7 +2,7 @@
 use mathlib.Core.Path.{_≡_, refl}
 use mathlib.Core.List.{List, [], _∷_}
 use lib.Ieee.{Float, binary64, ofBits, add, sub, mul, div}
-use Rattle.places.specs.Ring.{foldPairs}
+use Rattle.places.specs.Loops.{foldList}
 use Rattle.floats.specs.F64.{zero64, one64}
 use Rattle.flat.specs.Points.{Point, minusOf}
 use Rattle.volume.specs.Volume.{tripleOf}
@@ -23,5 +23,5 @@ top =
     ∷ point one64 one64 one64 ∷ point zero64 one64 one64 ∷ []
 
 top-of-cube : contributionOf (point zero64 zero64 zero64) top ≡ third
-unfolding contributionOf addFan foldPairs tripleOf minusOf ofBits add sub mul div
+unfolding contributionOf addFan foldList tripleOf minusOf ofBits add sub mul div
 top-of-cube = refl

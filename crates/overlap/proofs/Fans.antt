@@ -7,6 +7,7 @@ use native.Mathlib.Omega.{arith}
 use lib.ListN.{length, getD, drop}
 use lib.Ieee.{Float, ofBits, div}
 use Rattle.places.specs.Ring.{foldPairs}
+use Rattle.places.specs.Loops.{foldList}
 use Rattle.places.proofs.Loops.{drop-more}
 use Rattle.floats.specs.F64.{_+f_, _/f_, zero64, six64}
 use Rattle.flat.specs.Points.{Point, minusOf}
@@ -42,7 +43,7 @@ module _ {ref : Point} {ps : List Point} where
 
   pub fan-next : {p : Point} {whole : Float} {i : ℕ} {a b : Point} {v w : Float} → Fanning ref p ps whole i a v → i < length ps
       → b ≡ minusOf 3 (getD ps i []) ref → w ≡ v +f tripleOf (minusOf 3 p ref) a b → Fanning ref p ps whole (i + 1) b w
-  unfolding foldPairs addFan
+  unfolding foldList addFan
   fan-next {p} {i = i} {v = v} l h q e =
       let back : i - 1 + 1 ≡ i = omega (arith, l .some) in
       let on : i + 1 - 1 ≡ i = omega arith in
@@ -54,7 +55,7 @@ module _ {ref : Point} {ps : List Point} where
       }
 
   pub fan-end : {p : Point} {whole : Float} {i : ℕ} {a : Point} {v : Float} → Fanning ref p ps whole i a v → length ps ≤ i → v ≡ whole
-  unfolding foldPairs
+  unfolding foldList
   fan-end {i = i} l h = sym (rw (steps-last ps (i - 1) (omega (arith, l .some)))) ∙ l .so
 
 -- ---- what the sum says of the contribution
@@ -65,7 +66,7 @@ contribution-is ref (p ∷ ps) h = refl
 
 -- an outline under 3 points has no triangle
 pub contribution-none : (ref : Point) (ps : List Point) → length ps < 3 → zero64 ≡ contributionOf ref ps
-unfolding contributionOf foldPairs ofBits div
+unfolding contributionOf foldList ofBits div
 contribution-none ref [] h = refl
 contribution-none ref (a ∷ []) h = refl
 contribution-none ref (a ∷ b ∷ []) h = refl

@@ -1,13 +1,13 @@
 -- What is left of a face, for `first_patch` and `second_patch`: nothing where a plane of the other cell skips it, and else what clipping
 -- leaves. And that this is never an outline of 0 points.
 use mathlib.Core.Path.{_≡_, refl}
-use mathlib.Core.Bool.{Bool, true, false}
+use mathlib.Core.Bool.{Bool, true, false, cond}
 use mathlib.Core.List.{List}
 use Prim.Native.Nat.{ℕ, _*_, _-_, _<_}
 use native.Mathlib.Omega.{arith}
 use lib.ListN.{length, take}
 use lib.Ieee.{Float}
-use Rattle.places.specs.Loops.{pick, anyOf}
+use Rattle.places.specs.Loops.{anyOf}
 use Rattle.places.proofs.Stored.{length-threes}
 use Rattle.flat.specs.Points.{Point, verticesOf, cornersOf}
 use Rattle.planes.specs.declared.Plane.{Plane}
@@ -35,7 +35,7 @@ clippers false plane tol planes = otherPlanes plane tol planes
 -- what is left of a face: nothing where it is skipped
 patch-is : (second : Bool) (room : ℕ) (m : Measures) (planes : List Plane) (ps : List Point)
     → patchOf second room m planes ps
-    ≡ pick (anyOf (coplanarSkip second (planeOf ps) (m .coplanar)) planes) nothing
+    ≡ cond (anyOf (coplanarSkip second (planeOf ps) (m .coplanar)) planes) nothing
     (clipFaceOf room (m .eps) (clippers second (planeOf ps) (m .coplanar) planes) ps)
 unfolding firstPatch secondPatch
 patch-is true room m planes ps = refl

@@ -1,7 +1,7 @@
 -- The loop of `add_faces`: the plane of each face stands beside it in a list, and what is left of the faces is taken into the sum, one
 -- after the other.
 use mathlib.Core.Path.{_≡_, refl, sym, ap, _∙_}
-use mathlib.Core.Bool.{Bool, true, false}
+use mathlib.Core.Bool.{Bool, true, false, cond}
 use mathlib.Core.List.{List, [], _∷_, _++_, map}
 use Prim.Native.Nat.{ℕ, _+_, _*_, _<_, _≤_, zero-le}
 use native.Mathlib.Omega.{arith}
@@ -9,7 +9,6 @@ use lib.Dec.{T}
 use lib.ListN.{length, getD, take, drop, length-take, length-drop}
 use lib.Seq.{slice}
 use lib.Ieee.{Float}
-use Rattle.places.specs.Loops.{pick}
 use Rattle.places.proofs.Loops.{drop-more}
 use Rattle.places.proofs.Lists.{each-slice}
 use Rattle.places.proofs.Stored.{threes-take}
@@ -88,7 +87,7 @@ took-nothing {o = outline s []} ref v q = refl
 took-nothing {o = outline s (p ∷ ps)} ref v q = cc (q .answer)
 
 took-outline : {o : Outcome} {n : ℕ} {s : Bool} {a b : List Point} (ref : Point) (v : Float) → Ended o (Outline n s) a b
-    → Sum.Is (v +f contributionOf ref (take n (pick s b a))) ≡ addedTo ref v (o ∷ [])
+    → Sum.Is (v +f contributionOf ref (take n (cond s b a))) ≡ addedTo ref v (o ∷ [])
 unfolding addedTo
 took-outline {o = nothing} ref v q = cc (q .answer)
 took-outline {o = noRoom} ref v q = cc (q .answer)
@@ -100,12 +99,12 @@ took-outline {o = outline t (p ∷ ps)} {n} {s} ref v q =
 
 -- the points of the stretch that shows an outline
 shown-points : (n : ℕ) (s : Bool) (a b : List Float)
-    → verticesOf (take (n * 3) (pick s b a)) ≡ take n (pick s (verticesOf b) (verticesOf a))
+    → verticesOf (take (n * 3) (cond s b a)) ≡ take n (cond s (verticesOf b) (verticesOf a))
 shown-points n true a b = threes-take n b
 shown-points n false a b = threes-take n a
 
 pub took-shown : {o : Outcome} {n : ℕ} {s : Bool} {shown : List Float} {w : Float} (ref : Point) (v : Float) (a b : List Float)
-    → Ended o (Outline n s) (verticesOf a) (verticesOf b) → shown ≡ take (n * 3) (pick s b a) → w ≡ contributionOf ref (verticesOf shown)
+    → Ended o (Outline n s) (verticesOf a) (verticesOf b) → shown ≡ take (n * 3) (cond s b a) → w ≡ contributionOf ref (verticesOf shown)
     → Sum.Is (v +f w) ≡ addedTo ref v (o ∷ [])
 took-shown {n = n} {s = s} ref v a b q f g = rw (g, f, shown-points n s a b) (took-outline ref v q)
 

@@ -1,9 +1,9 @@
 -- convex_intersection_volume: each cell's faces clipped by the planes of the other, and the contributions of what is left.
 use Prim.Native.Nat.{ℕ}
-use mathlib.Core.Bool.{Bool, true, false, _||_}
+use mathlib.Core.Bool.{Bool, true, false, _||_, cond}
 use mathlib.Core.List.{List, [], _∷_, _++_, map}
 use lib.Ieee.{Float}
-use Rattle.places.specs.Loops.{pick, anyOf}
+use Rattle.places.specs.Loops.{anyOf}
 use Rattle.places.specs.Ring.{foldPairs}
 use Rattle.floats.specs.F64.{_+f_, _/f_, zero64, six64}
 use Rattle.floats.specs.Pick.{magnitudeOf}
@@ -45,7 +45,7 @@ unfoldable pub otherPlanes : Plane → Float → List Plane → List Plane
 otherPlanes plane tol [] = []
 otherPlanes plane tol (p ∷ ps) =
     let rest = otherPlanes plane tol ps in
-    pick (sameSide plane p tol) rest (p ∷ rest)
+    cond (sameSide plane p tol) rest (p ∷ rest)
 
 -- a face of the first cell: none of it counts where it lies in a plane of the second from the other side; else it is clipped by the
 -- planes of the second that are not its own
@@ -53,7 +53,7 @@ unfoldable pub firstPatch : ℕ → Measures → List Plane → List Point → O
 firstPatch room m planes ps =
     let plane = planeOf ps in
     let left = clipFaceOf room (m .eps) (otherPlanes plane (m .coplanar) planes) ps in
-    pick (anyOf (coplanarSkip false plane (m .coplanar)) planes) nothing left
+    cond (anyOf (coplanarSkip false plane (m .coplanar)) planes) nothing left
 
 -- a face of the second cell: none of it counts where it lies in a plane of the first, from either side; else it is clipped by all
 -- planes of the first
@@ -61,7 +61,7 @@ unfoldable pub secondPatch : ℕ → Measures → List Plane → List Point → 
 secondPatch room m planes ps =
     let plane = planeOf ps in
     let left = clipFaceOf room (m .eps) planes ps in
-    pick (anyOf (coplanarSkip true plane (m .coplanar)) planes) nothing left
+    cond (anyOf (coplanarSkip true plane (m .coplanar)) planes) nothing left
 
 -- a face of the second cell (true) or of the first (false), clipped by planes of the other
 abbrev pub patchOf : Bool → ℕ → Measures → List Plane → List Point → Outcome
@@ -99,4 +99,4 @@ overlapOf room vs faces ws otherFaces =
 unfoldable pub intersectionOf : ℕ → List Point → List (List ℕ) → List Point → List (List ℕ) → Sum
 intersectionOf room vs faces ws otherFaces =
     let overlap = overlapOf room vs faces ws otherFaces in
-    pick (boxesMiss (boundsOf 3 vs) (boundsOf 3 ws)) (Sum.Is zero64) overlap
+    cond (boxesMiss (boundsOf 3 vs) (boundsOf 3 ws)) (Sum.Is zero64) overlap

@@ -2,7 +2,7 @@
 -- loops over a list. An invariant is one record that says: what is left of the list makes, with the state, the whole.
 use mathlib.Core.Path.{_≡_, refl, sym, _∙_, ap}
 use mathlib.Core.Logic.{⊎-elim}
-use mathlib.Core.Bool.{Bool, true, false, _||_}
+use mathlib.Core.Bool.{Bool, true, false, _||_, cond}
 use mathlib.Core.List.{List, [], _∷_, _++_}
 use Prim.Native.Nat.{ℕ, zero, suc, _+_, _-_, _<_, _≤_, zero-le}
 use native.Mathlib.Nat.{sub-zero, zero-add, add-zero, add-assoc, eq-or-lt-of-le}
@@ -10,12 +10,17 @@ use native.Mathlib.Omega.{arith}
 use native.Mathlib.Numerals.{add-one}
 use lib.ListN.{length, getD, drop, drop-of-length-le}
 use lib.Seq.{drop-cons}
-use Rattle.places.specs.Loops.{pick, foldList, anyOf, countOf, firstFrom}
+use Rattle.places.specs.Loops.{oneIf, foldList, anyOf, countOf, firstFrom}
 use Rattle.places.specs.Ring.{sides, foldPairs, nextOf}
 use Rattle.places.specs.declared.Found.{Found}
 use Rattle.places.specs.declared.Found.the-variants.{At, Nothing}
 use Rattle.places.proofs.Folding.{left-suc, left-none}
 use Rattle.places.proofs.Rings.{length-sides, side-at}
+
+-- a yes counts at most once
+pub one-at-most : (b : Bool) → oneIf b ≤ 1
+one-at-most true = omega arith
+one-at-most false = omega arith
 
 -- a list from a place on
 pub drop-more : {A : Type 0} (l : List A) (i : ℕ) (d : A) → i < length l → drop i l ≡ getD l i d ∷ drop (i + 1) l
@@ -57,7 +62,7 @@ any-taken {A} test l = go l false
     go (x ∷ xs) true = go xs true
     go (x ∷ xs) false = go xs (test x) ∙ either (test x)
       where
-        either : (b : Bool) → (b || anyOf test xs) ≡ pick b true (anyOf test xs)
+        either : (b : Bool) → (b || anyOf test xs) ≡ cond b true (anyOf test xs)
         either true = refl
         either false = refl
 
@@ -72,13 +77,13 @@ module _ {A S : Type 0} {f : A → A → S → S} {l : List A} {whole : S} where
 
   pub round-next : {i : ℕ} {s s′ : S} (d : A) → Rounding f l whole i s → i < length l
       → s′ ≡ f (getD l i d) (getD l (nextOf i (length l)) d) s → Rounding f l whole (i + 1) s′
-  unfolding foldPairs
+  unfolding foldList
   round-next {i} {s} {s′} d p h e =
       let g : i < length (sides l) = rw (length-sides l) h in
       record { within = omega arith; so = rw e (sym (rw (drop-more (sides l) i (d, d) g, side-at l i d h)) ∙ p .so) }
 
   pub round-end : {i : ℕ} {s : S} → Rounding f l whole i s → length l ≤ i → s ≡ whole
-  unfolding foldPairs
+  unfolding foldList
   round-end {i} {s} p h =
       let g : length (sides l) ≤ i = rw (length-sides l) h in
       sym (rw (drop-of-length-le (sides l) g)) ∙ p .so
@@ -114,19 +119,15 @@ module _ {A : Type 0} {test : A → Bool} {l : List A} {whole : ℕ} where
   pub count-start : countOf test l ≡ whole → Counting test l whole 0 0
   count-start e = record { within = zero-le; few = zero-le; so = zero-add (countOf test l) ∙ e }
 
-  pub count-next : {i n n′ : ℕ} (d : A) → Counting test l whole i n → i < length l → n′ ≡ n + pick (test (getD l i d)) 1 0
+  pub count-next : {i n n′ : ℕ} (d : A) → Counting test l whole i n → i < length l → n′ ≡ n + oneIf (test (getD l i d))
       → Counting test l whole (i + 1) n′
   unfolding countOf
   count-next {i} {n} {n′} d p h e =
       record {
         within = omega arith;
-        few = omega (arith, p .few, once (test (getD l i d)));
-        so = rw e (add-assoc n (pick (test (getD l i d)) 1 0) (countOf test (drop (i + 1) l)) ∙ sym (rw (drop-more l i d h)) ∙ p .so);
+        few = omega (arith, p .few, one-at-most (test (getD l i d)));
+        so = rw e (add-assoc n (oneIf (test (getD l i d))) (countOf test (drop (i + 1) l)) ∙ sym (rw (drop-more l i d h)) ∙ p .so);
       }
-    where
-      once : (b : Bool) → pick {A = ℕ} b 1 0 ≤ 1
-      once true = omega arith
-      once false = omega arith
 
   pub count-end : {i n : ℕ} → Counting test l whole i n → length l ≤ i → n ≡ whole
   unfolding countOf
@@ -159,7 +160,7 @@ unfolding firstFrom
 first-below test zero i k e = let z : _≡_ {A = ℕ} 0 1 = cc in omega arith
 first-below test (suc left) i k e = go (test i) e (first-below test left (i + 1) k)
   where
-    go : (b : Bool) → pick b (At i) (firstFrom test left (i + 1)) ≡ At k → (firstFrom test left (i + 1) ≡ At k → k < i + 1 + left)
+    go : (b : Bool) → cond b (At i) (firstFrom test left (i + 1)) ≡ At k → (firstFrom test left (i + 1) ≡ At k → k < i + 1 + left)
         → k < i + suc left
     go true e r = let q : i ≡ k = cc in omega arith
     go false e r = omega (arith, r e)
@@ -170,7 +171,7 @@ unfolding firstFrom
 first-none test zero i e k a b = absurd (omega arith)
 first-none test (suc left) i e k a b = go (test i) refl e (first-none test left (i + 1))
   where
-    go : (t : Bool) → test i ≡ t → pick t (At i) (firstFrom test left (i + 1)) ≡ Nothing
+    go : (t : Bool) → test i ≡ t → cond t (At i) (firstFrom test left (i + 1)) ≡ Nothing
         → (firstFrom test left (i + 1) ≡ Nothing → (j : ℕ) → i + 1 ≤ j → j < i + 1 + left → test j ≡ false) → test k ≡ false
     go true q e r = cc
     go false q e r = ⊎-elim (λ s. rw (← s) q) (λ s. r e k (omega arith) (omega arith)) (eq-or-lt-of-le a)

@@ -1,7 +1,7 @@
 -- The places beside a place of a ring are on the ring, and the side at a place runs from there to the next; the loops that go round a ring
 -- need both.
 use mathlib.Core.Path.{_≡_, refl, sym, _∙_, ap}
-use mathlib.Core.Bool.{Bool, true, false}
+use mathlib.Core.Bool.{Bool, true, false, cond}
 use mathlib.Core.List.{List, [], _∷_, _++_}
 use Prim.Native.Nat.{ℕ, zero, suc, _+_, _-_, _<_, _≤_}
 use native.Mathlib.Nat.{le-of-suc-le-suc, not-suc-le-zero}
@@ -11,7 +11,6 @@ use lib.Dec.{eqb, ltb}
 use lib.ListN.{length, getD, List·getD-append}
 use lib.Seq.{getD-at}
 use borrow.Author.Tests.{ltb-true, ltb-false, ne-eqb}
-use Rattle.places.specs.Loops.{pick}
 use Rattle.places.specs.Ring.{walk, sides, prevOf, nextOf, earOf}
 use Rattle.places.specs.Lists.{Each}
 use Rattle.places.proofs.Lists.{each-nil, each-cons}
@@ -20,7 +19,7 @@ pub prev-below : (k n : ℕ) → k < n → prevOf k n < n
 unfolding prevOf
 prev-below k n h = go (eqb k 0)
   where
-    go : (b : Bool) → pick b (n - 1) (k - 1) < n
+    go : (b : Bool) → cond b (n - 1) (k - 1) < n
     go true = omega arith
     go false = omega arith
 
@@ -34,7 +33,7 @@ pub next-below : (k n : ℕ) → k < n → nextOf k n < n
 unfolding nextOf
 next-below k n h = go (ltb (k + 1) n) refl
   where
-    go : (b : Bool) → ltb (k + 1) n ≡ b → pick b (k + 1) 0 < n
+    go : (b : Bool) → ltb (k + 1) n ≡ b → cond b (k + 1) 0 < n
     go true e = omega (arith, ltb-true (k + 1) n e)
     go false e = omega arith
 
@@ -66,7 +65,7 @@ module _ {A : Type 0} where
   unfolding nextOf
   after-at a l i d h = go (ltb (i + 1) (suc (length l))) refl
     where
-      go : (b : Bool) → ltb (i + 1) (suc (length l)) ≡ b → getD (l ++ a ∷ []) i d ≡ getD (a ∷ l) (pick b (i + 1) 0) d
+      go : (b : Bool) → ltb (i + 1) (suc (length l)) ≡ b → getD (l ++ a ∷ []) i d ≡ getD (a ∷ l) (cond b (i + 1) 0) d
       go true e =
           let g : i < length l = omega (arith, ltb-true (i + 1) (suc (length l)) e) in
           rw (add-one i) (List·getD-append l (a ∷ []) d i g)

@@ -6,6 +6,7 @@ use Prim.Native.Nat.{ℕ, _+_, _<_, _≤_}
 use native.Mathlib.Omega.{arith}
 use lib.ListN.{length, getD, drop, drop-of-length-le}
 use Rattle.places.specs.Ring.{walk, sides, foldPairs}
+use Rattle.places.specs.Loops.{foldList}
 use Rattle.places.proofs.Loops.{drop-more}
 
 -- ---- from the corner a, with the corners from place i on to come and z at the end, the state s comes to `whole`
@@ -23,9 +24,9 @@ module _ {A S : Type 0} {f : A → A → S → S} {l : List A} {whole : S} where
 
   pub walk-next : {z a b : A} {i : ℕ} {s s′ : S} (d : A) → Walking f l whole z i a s → i < length l → b ≡ getD l i d → s′ ≡ f a b s
       → Walking f l whole z (i + 1) b s′
-  unfolding foldPairs
+  unfolding foldList
   walk-next {z} {a} {b} {i} {s} {s′} d w h q e = record { within = omega arith; so = rw (e, q) (sym (rw (drop-more l i d h)) ∙ w .so) }
 
   pub walk-end : {z a : A} {i : ℕ} {s s′ : S} → Walking f l whole z i a s → length l ≤ i → s′ ≡ f a z s → s′ ≡ whole
-  unfolding foldPairs
+  unfolding foldList
   walk-end {z} {a} {i} {s} w h e = e ∙ sym (rw (drop-of-length-le l h)) ∙ w .so

@@ -1,9 +1,10 @@
 -- A ring is a list whose first element comes again after its last.
+use mathlib.Core.Bool.{cond}
 use Prim.Native.Nat.{ℕ, _+_, _-_}
 use mathlib.Core.List.{List, [], _∷_}
 use lib.ListN.{length, getD}
 use lib.Dec.{eqb, ltb}
-use Rattle.places.specs.Loops.{pick}
+use Rattle.places.specs.Loops.{foldList}
 
 -- from a through the elements of l to z
 abbrev pub walk : {A : Type 0} → A → List A → A → List (A × A)
@@ -16,9 +17,8 @@ sides [] = []
 sides (a ∷ l) = walk a l a
 
 -- pairs taken in one after the other, from the state s on
-unfoldable pub foldPairs : {A S : Type 0} → (A → A → S → S) → List (A × A) → S → S
-foldPairs f [] s = s
-foldPairs f (e ∷ l) s = foldPairs f l (f (e .0) (e .1) s)
+abbrev pub foldPairs : {A S : Type 0} → (A → A → S → S) → List (A × A) → S → S
+foldPairs f l s = foldList (λ e. f (e .0) (e .1)) l s
 
 -- the sides of a ring taken in one after the other, each from its corner to the next
 abbrev pub foldSides : {A S : Type 0} → (A → A → S → S) → List A → S → S
@@ -26,10 +26,10 @@ foldSides f ring s = foldPairs f (sides ring) s
 
 -- the place after i in a ring of n, and the one before
 unfoldable pub nextOf : ℕ → ℕ → ℕ
-nextOf i n = pick (ltb (i + 1) n) (i + 1) 0
+nextOf i n = cond (ltb (i + 1) n) (i + 1) 0
 
 unfoldable pub prevOf : ℕ → ℕ → ℕ
-prevOf i n = pick (eqb i 0) (n - 1) (i - 1)
+prevOf i n = cond (eqb i 0) (n - 1) (i - 1)
 
 -- what stands before place k, and after it
 abbrev pub before : {A : Type 0} → A → ℕ → List A → A

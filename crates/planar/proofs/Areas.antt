@@ -1,13 +1,11 @@
 -- The area of what is left, by what the answer of a clipping says.
 use mathlib.Core.Path.{_≡_, refl}
 use mathlib.Core.Logic.{_≢_}
-use mathlib.Core.Bool.{Bool}
+use mathlib.Core.Bool.{Bool, cond}
 use mathlib.Core.List.{List, []}
 use Prim.Native.Nat.{ℕ, _*_}
 use lib.ListN.{take}
 use lib.Ieee.{Float, ofBits, div}
-use Rattle.places.specs.Loops.{pick}
-use Rattle.places.specs.Ring.{foldPairs}
 use Rattle.places.specs.Stored.{inPairs}
 use Rattle.floats.specs.F64.{zero64}
 use Rattle.floats.specs.Pick.{magnitudeOf}
@@ -18,13 +16,14 @@ use Rattle.work_lists.specs.declared.Left.the-variants as clipped
 use Rattle.work_lists.specs.WorkLists.{Outcome, nothing, noRoom, outline, outlineOf}
 use Rattle.work_lists.specs.Steps.{Ended}
 use Rattle.work_lists.proofs.Endings.{reads-pairs, nothing-left, room-lacks, outline-left}
+use Rattle.places.specs.Loops.{foldList}
 use Rattle.places.proofs.Stored.{pairs-take}
 use Rattle.work_lists.specs.declared.Sum.the-variants.{Is, NoRoom}
 use Rattle.planar.specs.Planar.{intersectionAreaOf, areaAnswer}
 
 -- nothing has the area +0
 no-area : magnitudeOf (signedAreaOf []) ≡ zero64
-unfolding ofBits div foldPairs magnitudeOf summedAreaOf signedAreaOf
+unfolding ofBits div foldList magnitudeOf summedAreaOf signedAreaOf
 no-area = refl
 
 -- the area of every outcome but that of no room
@@ -41,7 +40,7 @@ pub area-refused : {o : Outcome} {a b : List Point} → Ended o clipped.NoRoom a
 area-refused q = rw (room-lacks q)
 
 pub area-shown : {o : Outcome} {n : ℕ} {second : Bool} (a b : List Float) {l : List Float} {s x : Float}
-    → Ended o (Outline n second) (inPairs a) (inPairs b) → l ≡ take (n * 2) (pick second b a)
+    → Ended o (Outline n second) (inPairs a) (inPairs b) → l ≡ take (n * 2) (cond second b a)
     → s ≡ signedAreaOf (inPairs l) → x ≡ magnitudeOf s → Is x ≡ areaAnswer o
 unfolding intersectionAreaOf
-area-shown {n = n} {second = second} a b q e f g = rw (outline-left reads-pairs q, g, f, e, pairs-take n (pick second b a))
+area-shown {n = n} {second = second} a b q e f g = rw (outline-left reads-pairs q, g, f, e, pairs-take n (cond second b a))

@@ -1,10 +1,10 @@
 -- clip_convex: an outline of the plane clipped by the edges of another; and the area of what is left.
+use mathlib.Core.Bool.{cond}
 use Prim.Native.Nat.{ℕ}
 use mathlib.Core.List.{List}
 use lib.ListN.{length}
 use lib.Dec.{ltb}
 use lib.Ieee.{Float}
-use Rattle.places.specs.Loops.{pick}
 use Rattle.places.specs.Ring.{sides}
 use Rattle.floats.specs.Pick.{magnitudeOf}
 use Rattle.flat.specs.Points.{Point}
@@ -18,7 +18,7 @@ use Rattle.work_lists.specs.declared.Sum.the-variants.{Is, NoRoom}
 unfoldable pub edgeChange : ℕ → Point × Point → List Point → Change
 edgeChange room edge ps =
     let cut = trimmedAt (edge .0) (edge .1) ps in
-    pick (ltb (length ps) 3) gone (pick (ltb room (length cut)) full (made cut))
+    cond (ltb (length ps) 3) gone (cond (ltb room (length cut)) full (made cut))
 
 -- clip_convex, with room for so many points in the shorter work list; an empty clip list leaves the subject
 unfoldable pub clipConvexOf : ℕ → List Point → List Point → Outcome

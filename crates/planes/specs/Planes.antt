@@ -1,10 +1,9 @@
 -- Planes: the plane of a face, the distance of a point, when two planes are the same, and planes as they are stored.
 use Prim.Native.Nat.{ℕ}
-use mathlib.Core.Bool.{Bool, false}
+use mathlib.Core.Bool.{Bool, false, cond}
 use mathlib.Core.List.{List, [], _∷_, map}
 use lib.ListN.{getD}
 use lib.Ieee.{Float, binary64, ofBits, neg, le}
-use Rattle.places.specs.Loops.{pick}
 use Rattle.floats.specs.F64.{_+f_, _-f_, _*f_, _/f_, one64}
 use Rattle.floats.specs.Pick.{magnitudeOf}
 use Rattle.floats.specs.Length.{lengthOf}
@@ -44,11 +43,11 @@ slant = ofBits binary64 0x3ddb_7cdf_d9d7_bdbb
 
 -- plane_same_side: the normals point the same way and the offsets agree
 unfoldable pub sameSide : Plane → Plane → Float → Bool
-sameSide a b tol = pick (le (dotOf (a .n) (b .n)) (one64 -f slant)) false (le (magnitudeOf (a .d -f b .d)) tol)
+sameSide a b tol = cond (le (dotOf (a .n) (b .n)) (one64 -f slant)) false (le (magnitudeOf (a .d -f b .d)) tol)
 
 -- plane_coplanar_opposite: the normals point opposite ways and the offsets agree
 unfoldable pub coplanarOpposite : Plane → Plane → Float → Bool
-coplanarOpposite a b tol = pick (le (neg one64 +f slant) (dotOf (a .n) (b .n))) false (le (magnitudeOf (a .d +f b .d)) tol)
+coplanarOpposite a b tol = cond (le (neg one64 +f slant) (dotOf (a .n) (b .n))) false (le (magnitudeOf (a .d +f b .d)) tol)
 
 -- ---- planes as they are stored
 -- the planes of a list that is stored in fours, normal first; one to three numbers over make no plane

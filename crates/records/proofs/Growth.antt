@@ -1,7 +1,7 @@
 -- The counts grow with what a record adds and keep within the limits, whatever its kind (`tally-follows`): so what the lists hold of the
 -- cell is what the tally counts.
 use mathlib.Core.Path.{_≡_, refl}
-use mathlib.Core.Bool.{Bool, true, false, _&&_}
+use mathlib.Core.Bool.{Bool, true, false, _&&_, cond}
 use mathlib.Core.List.{List, [], _∷_}
 use Prim.Native.Nat.{ℕ, zero, suc, _+_, _*_, _<_}
 use native.Mathlib.Omega.{arith}
@@ -9,7 +9,6 @@ use lib.Dec.{eqb}
 use lib.ListN.{length}
 use lib.Ieee.{Float}
 use borrow.Author.Tests.{eqb-true, ne-eqb}
-use Rattle.places.specs.Loops.{pick}
 use Rattle.records.specs.declared.bytes.Rec.{Rec}
 use Rattle.records.specs.declared.tally.Tally.{Tally}
 use Rattle.records.specs.Tally.{vertexWhy, cornerWhy, faceEndWhy, cellEndWhy, queryWhy, cornerFine, endFine, fieldsOf, added}
@@ -27,7 +26,7 @@ pub record Follows (t : Tally) (a : List Float) (b c : List ℕ) (d : List Float
   pub queries : u .queries * 3 ≡ t .queries * 3 + length d
   pub fits : Fits u
 
-nothing : {A : Type 0} (b : Bool) → _≡_ {A = List A} (pick b [] []) []
+nothing : {A : Type 0} (b : Bool) → _≡_ {A = List A} (cond b [] []) []
 nothing true = refl
 nothing false = refl
 
@@ -51,7 +50,7 @@ module _ (t : Tally) (r : Rec) (f : Fits t) where
 
   -- where nothing speaks against the record, what it adds; else the tally is refused
   settled : (b : Bool) (w : ℕ) (x : List Float) (y z : List ℕ) (v : List Float) (n : Tally) → (b ≡ true → Follows t x y z v n)
-      → Follows t (pick b x []) (pick b y []) (pick b z []) (pick b v []) (pick b n (refusedOf t w))
+      → Follows t (cond b x []) (cond b y []) (cond b z []) (cond b v []) (cond b n (refusedOf t w))
   settled true w x y z v n h = h refl
   settled false w x y z v n h = refused w
 
@@ -130,11 +129,11 @@ module _ (t : Tally) (r : Rec) (f : Fits t) where
       }))
 
   by-kind : (k : ℕ)
-      → Follows t (pick (eqb k 1) (added (vertexWhy t r) (fieldsOf r)) []) (pick (eqb k 2) (added (cornerWhy t r) (r .a ∷ [])) [])
-      (pick (eqb k 3) (added (faceEndWhy t r) (t .corners ∷ [])) []) (pick (eqb k 5) (added (queryWhy t r) (fieldsOf r)) [])
-      (pick (eqb k 1) (vertexTaken t r)
-      (pick (eqb k 2) (cornerTaken t r)
-      (pick (eqb k 3) (faceEndTaken t r) (pick (eqb k 4) (cellEndTaken t r) (pick (eqb k 5) (queryTaken t r) (refusedOf t 7))))))
+      → Follows t (cond (eqb k 1) (added (vertexWhy t r) (fieldsOf r)) []) (cond (eqb k 2) (added (cornerWhy t r) (r .a ∷ [])) [])
+      (cond (eqb k 3) (added (faceEndWhy t r) (t .corners ∷ [])) []) (cond (eqb k 5) (added (queryWhy t r) (fieldsOf r)) [])
+      (cond (eqb k 1) (vertexTaken t r)
+      (cond (eqb k 2) (cornerTaken t r)
+      (cond (eqb k 3) (faceEndTaken t r) (cond (eqb k 4) (cellEndTaken t r) (cond (eqb k 5) (queryTaken t r) (refusedOf t 7))))))
   by-kind zero = refused 7
   by-kind (suc zero) = vertex
   by-kind (suc (suc zero)) = corner
@@ -157,13 +156,13 @@ module _ (t : Tally) (r : Rec) (f : Fits t) where
   tally-follows = go (eqb (t .refusal) 0)
     where
       go : (b : Bool)
-          → Follows t (pick (b && eqb (r .kind) 1) (added (vertexWhy t r) (fieldsOf r)) [])
-          (pick (b && eqb (r .kind) 2) (added (cornerWhy t r) (r .a ∷ [])) [])
-          (pick (b && eqb (r .kind) 3) (added (faceEndWhy t r) (t .corners ∷ [])) [])
-          (pick (b && eqb (r .kind) 5) (added (queryWhy t r) (fieldsOf r)) [])
-          (pick b (pick (eqb (r .kind) 1) (vertexTaken t r)
-          (pick (eqb (r .kind) 2) (cornerTaken t r)
-          (pick (eqb (r .kind) 3) (faceEndTaken t r)
-          (pick (eqb (r .kind) 4) (cellEndTaken t r) (pick (eqb (r .kind) 5) (queryTaken t r) (refusedOf t 7)))))) t)
+          → Follows t (cond (b && eqb (r .kind) 1) (added (vertexWhy t r) (fieldsOf r)) [])
+          (cond (b && eqb (r .kind) 2) (added (cornerWhy t r) (r .a ∷ [])) [])
+          (cond (b && eqb (r .kind) 3) (added (faceEndWhy t r) (t .corners ∷ [])) [])
+          (cond (b && eqb (r .kind) 5) (added (queryWhy t r) (fieldsOf r)) [])
+          (cond b (cond (eqb (r .kind) 1) (vertexTaken t r)
+          (cond (eqb (r .kind) 2) (cornerTaken t r)
+          (cond (eqb (r .kind) 3) (faceEndTaken t r)
+          (cond (eqb (r .kind) 4) (cellEndTaken t r) (cond (eqb (r .kind) 5) (queryTaken t r) (refusedOf t 7)))))) t)
       go true = by-kind (r .kind)
       go false = none

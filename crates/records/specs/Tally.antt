@@ -1,19 +1,18 @@
 -- The running tally: what speaks against a record, what each kind makes of the tally, and what it adds to the cell's lists.
 use Prim.Native.Nat.{ℕ, _+_, _≤_}
 use mathlib.Core.List.{List, [], _∷_}
-use mathlib.Core.Bool.{Bool, true, false, not, _&&_}
+use mathlib.Core.Bool.{Bool, true, false, not, _&&_, cond}
 use lib.ListN.{length}
 use lib.Dec.{eqb, ltb}
 use lib.Ieee.{Float, binary64, ofBits}
 use Rattle.places.specs.Limits.{mostVertices, mostCoordinates, mostFaces, mostCorners, mostQueries}
-use Rattle.places.specs.Loops.{pick}
 use Rattle.records.specs.declared.bytes.Rec.{Rec}
 use Rattle.records.specs.declared.tally.Tally.{Tally}
 
 -- ---- what speaks against a record: 7, 1 or 0
 -- 7 for a bad record, 1 for one more than there is room for; 7 comes before 1
 unfoldable pub whyOf : Bool → Bool → ℕ
-whyOf fine room = pick fine (pick room 0 1) 7
+whyOf fine room = cond fine (cond room 0 1) 7
 
 -- a corner's spare bytes and second and third field are zero, and its number fits 32 bits
 unfoldable pub cornerFine : Rec → Bool
@@ -60,7 +59,7 @@ refusedOf t why =
 
 -- the next tally, where nothing speaks against the record
 abbrev pub unless : Tally → ℕ → Tally → Tally
-unless t why next = pick (eqb why 0) next (refusedOf t why)
+unless t why next = cond (eqb why 0) next (refusedOf t why)
 
 -- a count that a record leaves as it is, and one that it raises
 abbrev pub same : ℕ → ℕ
@@ -125,17 +124,17 @@ fieldsOf r = ofBits binary64 (r .a) ∷ ofBits binary64 (r .b) ∷ ofBits binary
 
 -- a list, where nothing speaks against the record
 abbrev pub added : {A : Type 0} → ℕ → List A → List A
-added why xs = pick (eqb why 0) xs []
+added why xs = cond (eqb why 0) xs []
 
 -- ---- any record: in a refused cell it is skipped, else its kind says what it is, and every other kind is bad
 unfoldable pub tallyOf : Tally → Rec → Tally
 tallyOf t r =
-    pick (eqb (t .refusal) 0)
-    (pick (eqb (r .kind) 1) (vertexTaken t r)
-    (pick (eqb (r .kind) 2) (cornerTaken t r)
-    (pick (eqb (r .kind) 3) (faceEndTaken t r)
-    (pick (eqb (r .kind) 4) (cellEndTaken t r)
-    (pick (eqb (r .kind) 5) (queryTaken t r)
+    cond (eqb (t .refusal) 0)
+    (cond (eqb (r .kind) 1) (vertexTaken t r)
+    (cond (eqb (r .kind) 2) (cornerTaken t r)
+    (cond (eqb (r .kind) 3) (faceEndTaken t r)
+    (cond (eqb (r .kind) 4) (cellEndTaken t r)
+    (cond (eqb (r .kind) 5) (queryTaken t r)
     (refusedOf t 7))))))
     t
 
@@ -145,19 +144,19 @@ takes t r k = eqb (t .refusal) 0 && eqb (r .kind) k
 
 -- to the coordinates a vertex adds its three fields
 unfoldable pub newCoords : Tally → Rec → List Float
-newCoords t r = pick (takes t r 1) (added (vertexWhy t r) (fieldsOf r)) []
+newCoords t r = cond (takes t r 1) (added (vertexWhy t r) (fieldsOf r)) []
 
 -- to the corners a corner adds its number
 unfoldable pub newCorners : Tally → Rec → List ℕ
-newCorners t r = pick (takes t r 2) (added (cornerWhy t r) (r .a ∷ [])) []
+newCorners t r = cond (takes t r 2) (added (cornerWhy t r) (r .a ∷ [])) []
 
 -- to the ends a face end adds the count of corners
 unfoldable pub newEnds : Tally → Rec → List ℕ
-newEnds t r = pick (takes t r 3) (added (faceEndWhy t r) (t .corners ∷ [])) []
+newEnds t r = cond (takes t r 3) (added (faceEndWhy t r) (t .corners ∷ [])) []
 
 -- to the queries a query point adds its three fields
 unfoldable pub newQueries : Tally → Rec → List Float
-newQueries t r = pick (takes t r 5) (added (queryWhy t r) (fieldsOf r)) []
+newQueries t r = cond (takes t r 5) (added (queryWhy t r) (fieldsOf r)) []
 
 -- ---- the lists that are lent beside the tally
 -- they hold the largest cell

@@ -2,7 +2,7 @@
 -- has; and what is known of lists and cells that are not refused, for those who go on with them.
 use mathlib.Core.Path.{_≡_, refl, sym, _∙_}
 use mathlib.Core.Logic.{_≢_}
-use mathlib.Core.Bool.{Bool, true, false, not, _&&_, _||_}
+use mathlib.Core.Bool.{Bool, true, false, not, _&&_, _||_, cond}
 use mathlib.Core.List.{List, [], _∷_}
 use Prim.Native.Nat.{ℕ, _-_, _/_, _%_, _<_, _≤_}
 use native.Mathlib.Omega.{arith}
@@ -11,7 +11,7 @@ use lib.Dec.{T, eqb, leb, ltb}
 use lib.ListN.{length, getD}
 use lib.Seq.{length-slice}
 use lib.Ieee.{Float}
-use Rattle.places.specs.Loops.{pick, anyOf}
+use Rattle.places.specs.Loops.{anyOf}
 use Rattle.places.specs.Stored.{inPairs}
 use Rattle.places.proofs.Lists.{each-slice}
 use Rattle.places.proofs.Stored.{length-threes, length-pairs}
@@ -50,7 +50,7 @@ module _ (first rest : ℕ) where
   unfolding firstRefusal
   or-zero e = go (eqb first 0) refl e
     where
-      go : (b : Bool) → eqb first 0 ≡ b → pick b rest first ≡ 0 → (first ≡ 0) × (rest ≡ 0)
+      go : (b : Bool) → eqb first 0 ≡ b → cond b rest first ≡ 0 → (first ≡ 0) × (rest ≡ 0)
       go true t z = (eqb-true first 0 t, z)
       go false t z = absurd (eqb-false first 0 t z)
 
@@ -167,7 +167,7 @@ module _ (coords : List Float) (corners ends : List ℕ) (k room : ℕ) where
   first-decides f n = or-found _ f n
 
   pub room-decides : {why : ℕ} (b : Bool) → why ≡ faceRefusal coords corners ends k → why ≡ 0
-      → b ≡ roomRefused (getD (facesOf corners ends) k []) room → pick b 6 0 ≡ trianglesRefusal coords corners ends k room
+      → b ≡ roomRefused (getD (facesOf corners ends) k []) room → cond b 6 0 ≡ trianglesRefusal coords corners ends k room
   unfolding trianglesRefusal firstRow
   room-decides b f z r = or-other _ f z (rw (sym r))
 

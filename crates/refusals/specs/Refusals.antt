@@ -2,14 +2,14 @@
 -- points, what is asked of a cell's faces, triangles, turning the backward faces, `point_in_phed`, clipping, the overlap and the
 -- report's query points.
 -- The refusal 6 of clipping and the overlaps, which is found on the way, is not among these.
-use mathlib.Core.Bool.{Bool, not, _&&_, _||_}
+use mathlib.Core.Bool.{Bool, not, _&&_, _||_, cond}
 use mathlib.Core.List.{List, [], _∷_}
 use Prim.Native.Nat.{ℕ, _-_, _/_, _%_}
 use lib.Dec.{leb, ltb, eqb}
 use lib.ListN.{length, getD}
 use lib.Ieee.{Float}
 use Rattle.places.specs.Limits.{mostMarkedCorners, mostQueries, mostPlanes, mostPlanePoints, mostWorkNumbers}
-use Rattle.places.specs.Loops.{pick, anyOf}
+use Rattle.places.specs.Loops.{anyOf}
 use Rattle.places.specs.Stored.{inPairs}
 use Rattle.flat.specs.Points.{verticesOf}
 use Rattle.cell.specs.Faces.{facesOf}
@@ -20,7 +20,7 @@ use Rattle.planes.specs.Planes.{inFours}
 
 -- the first of two refusals: the second is asked only where the first is none
 unfoldable pub firstRefusal : ℕ → ℕ → ℕ
-firstRefusal why rest = pick (eqb why 0) rest why
+firstRefusal why rest = cond (eqb why 0) rest why
 
 -- ---- lists of points
 -- a list of points of space: 1 size, 2 number

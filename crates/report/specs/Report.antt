@@ -1,12 +1,11 @@
 -- The report: the bytes are cut into records, each record makes something of the cell so far, and one that ends a cell prints its line.
 use Prim.Native.Nat.{ℕ, zero, suc, _+_, _-_, _*_, _/_}
 use mathlib.Core.List.{List, [], _∷_, _++_}
-use mathlib.Core.Bool.{Bool}
+use mathlib.Core.Bool.{Bool, cond}
 use lib.ListN.{length, take, drop}
 use lib.Seq.{sets}
 use lib.Dec.{eqb}
 use lib.Ieee.{Float}
-use Rattle.places.specs.Loops.{pick}
 use Rattle.geometry.specs.declared.Surveyed.{Surveyed}
 use Rattle.geometry.specs.declared.Surveyed.the-variants.{Is, Refused}
 use Rattle.geometry.specs.Survey.{surveyAnswer}
@@ -47,17 +46,17 @@ surveyLine number verts faces (Refused why) = refusedLine number why
 -- a cell's line: a record's refusal decides, and where there is none the survey of the cell
 unfoldable pub lineOf : Held → List ℕ
 lineOf h =
-    pick (eqb (h .tally .refusal) 0)
+    cond (eqb (h .tally .refusal) 0)
     (surveyLine (h .tally .number) (h .tally .verts) (h .tally .faces) (surveyAnswer (h .coords) (h .corners) (h .ends) (h .queries)))
     (refusedLine (h .tally .number) (h .tally .refusal))
 
 -- a record is taken: any record of kind 4 ends the cell, and the next one starts anew
 unfoldable pub recordTaken : Held → Rec → Held
-recordTaken h r = pick (eqb (r .kind) 4) (freshOf (h .tally .number + 1)) (grownOf h r)
+recordTaken h r = cond (eqb (r .kind) 4) (freshOf (h .tally .number + 1)) (grownOf h r)
 
 -- and what it prints
 unfoldable pub saysOf : Held → Rec → List ℕ
-saysOf h r = pick (eqb (r .kind) 4) (lineOf (grownOf h r)) []
+saysOf h r = cond (eqb (r .kind) 4) (lineOf (grownOf h r)) []
 
 -- the cell after these records
 unfoldable pub after : Held → List Rec → Held
@@ -81,7 +80,7 @@ recordsOf s = cutOf (length s / 32) s
 
 -- the end of the input: bytes after the last cell end are refused, be they whole records or not
 abbrev pub tailOf : Bool → ℕ → List ℕ
-tailOf begun left = pick begun tailLine (pick (eqb left 0) [] tailLine)
+tailOf begun left = cond begun tailLine (cond (eqb left 0) [] tailLine)
 
 -- the lines for the bytes s, where the cell so far is h
 unfoldable pub reportFrom : Held → List ℕ → List ℕ

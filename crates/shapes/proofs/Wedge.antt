@@ -1,9 +1,9 @@
 -- The two counts of a wedge: exactly one of them is odd where an odd number of all five faces is crossed.
 use mathlib.Core.Path.{_≡_, refl, sym, _∙_}
-use mathlib.Core.Bool.{Bool, true, false, not, Bool·beq}
+use mathlib.Core.Bool.{Bool, true, false, not, Bool·beq, cond}
 use mathlib.Core.List.{List, [], _∷_, _++_}
 use Prim.Native.Nat.{ℕ}
-use Rattle.places.specs.Loops.{pick, foldList}
+use Rattle.places.specs.Loops.{foldList}
 use Rattle.places.proofs.Loops.{fold-append}
 use Rattle.flat.specs.Points.{Point}
 use Rattle.inside.specs.Ray.{differ, rayCrosses}
@@ -22,7 +22,7 @@ pub differs : {a b c d : Bool} → a ≡ c → b ≡ d → not (Bool·beq a b) �
 differs {a} {b} {c} {d} e f = rw (e, f) (differ-is c d)
 
 -- a face that is crossed turns the answer round, before the others or after them
-cross-first : (crossed b rest : Bool) → differ (pick crossed (not b) b) rest ≡ differ b (differ (pick crossed true false) rest)
+cross-first : (crossed b rest : Bool) → differ (cond crossed (not b) b) rest ≡ differ b (differ (cond crossed true false) rest)
 cross-first true true true = refl
 cross-first true true false = refl
 cross-first true false rest = refl
@@ -35,7 +35,7 @@ module _ (vs : List Point) (p : Point) where
   cross-rest [] false = refl
   cross-rest (f ∷ fs) b =
       let crossed = rayCrosses vs p f in
-      rw (cross-rest fs (pick crossed (not b) b), cross-rest fs (pick crossed true false))
+      rw (cross-rest fs (cond crossed (not b) b), cross-rest fs (cond crossed true false))
       (cross-first crossed b (foldList (crossFace vs p) fs false))
 
   pub both-counts : (fs gs : List (List ℕ)) → containsOf vs p (fs ++ gs) ≡ differ (containsOf vs p fs) (containsOf vs p gs)

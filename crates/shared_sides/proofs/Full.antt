@@ -1,7 +1,7 @@
 -- The full table: a side without a second mark does not occur twice, and where each side occurs twice the table has both its marks.
 use mathlib.Core.Path.{_≡_, refl, sym, _∙_, ap}
 use mathlib.Core.Logic.{_≢_}
-use mathlib.Core.Bool.{Bool, true, false, not}
+use mathlib.Core.Bool.{Bool, true, false, not, cond}
 use mathlib.Core.List.{List, [], _∷_, _++_}
 use Prim.Native.Nat.{ℕ, _+_, _*_, _<_, _≤_}
 use native.Mathlib.Decide.{ℕ-discrete, decLt}
@@ -9,7 +9,7 @@ use native.Mathlib.Omega.{arith}
 use lib.Dec.{eqb}
 use lib.ListN.{length, getD}
 use borrow.Author.Tests.{eq-eqb, ne-eqb, lt-ltb, le-ltb, eqb-false}
-use Rattle.places.specs.Loops.{pick, anyOf}
+use Rattle.places.specs.Loops.{anyOf}
 use Rattle.places.specs.Lists.{Each}
 use Rattle.places.specs.Ring.{sides}
 use Rattle.places.proofs.Lists.{each-head, each-tail}
@@ -44,7 +44,7 @@ held-two x y s = go (ℕ-discrete x 0) (ℕ-discrete y 0)
 held-all : (x y : ℕ) → length (held x y) ≡ 2 → held x y ≡ x ∷ y ∷ []
 held-all x y = go (eqb x 0) (eqb y 0)
   where
-    go : (a b : Bool) → length (pick a [] (x ∷ pick b [] (y ∷ []))) ≡ 2 → pick a [] (x ∷ pick b [] (y ∷ [])) ≡ x ∷ y ∷ []
+    go : (a b : Bool) → length (cond a [] (x ∷ cond b [] (y ∷ []))) ≡ 2 → cond a [] (x ∷ cond b [] (y ∷ [])) ≡ x ∷ y ∷ []
     go true b e = absurd (omega arith)
     go false true e = absurd (omega arith)
     go false false e = refl
@@ -52,7 +52,7 @@ held-all x y = go (eqb x 0) (eqb y 0)
 held-above : (x y : ℕ) → length (held x y) ≡ 2 → (0 < x) × (0 < y)
 held-above x y = go (eqb x 0) (eqb y 0) refl refl
   where
-    go : (a b : Bool) → eqb x 0 ≡ a → eqb y 0 ≡ b → length (pick a [] (x ∷ pick b [] (y ∷ []))) ≡ 2 → (0 < x) × (0 < y)
+    go : (a b : Bool) → eqb x 0 ≡ a → eqb y 0 ≡ b → length (cond a [] (x ∷ cond b [] (y ∷ []))) ≡ 2 → (0 < x) × (0 < y)
     go true b p q e = absurd (omega arith)
     go false true p q e = absurd (omega arith)
     go false false p q e =
@@ -85,12 +85,12 @@ module _ {In : ℕ → Type 0} {at : ℕ → ℕ → ℕ} {t₀ t : List ℕ} (f
 
 -- face by face is side by side
 module _ {A : Type 0} (test : A → Bool) where
-  any-append : (l m : List A) → anyOf test (l ++ m) ≡ pick (anyOf test l) true (anyOf test m)
+  any-append : (l m : List A) → anyOf test (l ++ m) ≡ cond (anyOf test l) true (anyOf test m)
   unfolding anyOf
   any-append [] m = refl
   any-append (e ∷ l) m = rw (any-append l m) (go (test e) (anyOf test l) (anyOf test m))
     where
-      go : (a b c : Bool) → pick a true (pick b true c) ≡ pick (pick a true b) true c
+      go : (a b c : Bool) → cond a true (cond b true c) ≡ cond (cond a true b) true c
       go true b c = refl
       go false b c = refl
 

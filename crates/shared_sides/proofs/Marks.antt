@@ -2,16 +2,16 @@
 -- as the faces' own sides between the two vertices do.
 use mathlib.Core.Path.{_≡_, refl, sym, _∙_, ap}
 use mathlib.Core.Logic.{_≢_}
-use mathlib.Core.Bool.{Bool, true, false, not, _&&_, Bool·beq}
+use mathlib.Core.Bool.{Bool, true, false, not, _&&_, Bool·beq, cond}
 use mathlib.Core.List.{List, [], _∷_, _++_}
 use Prim.Native.Nat.{ℕ, zero, suc, _+_, _-_, _<_, _≤_}
 use native.Mathlib.Omega.{arith}
 use lib.Dec.{eqb, ltb, leb}
 use lib.ListN.{length, getD}
 use borrow.Author.Tests.{eq-eqb, ne-eqb, lt-ltb, le-ltb, ltb-true, ltb-false, le-leb, lt-leb}
-use Rattle.places.specs.Loops.{pick}
 use Rattle.places.specs.Ring.{sides}
-use Rattle.exact.specs.Sides.{bit, fromTo, count, runs}
+use Rattle.places.specs.Loops.{oneIf}
+use Rattle.exact.specs.Sides.{fromTo, count, runs}
 use Rattle.exact.specs.Facing.{faceBy, reversedBy, occurs, has}
 use Rattle.exact.proofs.Balance.{fromTo-eq}
 use Rattle.exact.proofs.Reversed.{sides-back, runs-none, runs-cons, in-range}
@@ -36,7 +36,7 @@ not-below m n = go (ltb m n) refl
 -- ---- of how many marks a test holds
 abbrev pub tally : (ℕ → Bool) → List ℕ → ℕ
 tally p [] = 0
-tally p (m ∷ l) = bit (p m) + tally p l
+tally p (m ∷ l) = oneIf (p m) + tally p l
 
 tally-append : (p : ℕ → Bool) (l k : List ℕ) → tally p (l ++ k) ≡ tally p l + tally p k
 tally-append p [] k = omega arith
@@ -52,9 +52,9 @@ length-tally (m ∷ l) = omega (arith, length-tally l)
 
 -- n where the test holds, else none
 abbrev given : Bool → ℕ → ℕ
-given b n = pick b n 0
+given b n = cond b n 0
 
-given-one : (b : Bool) → bit b ≡ given b 1
+given-one : (b : Bool) → oneIf b ≡ given b 1
 given-one true = refl
 given-one false = refl
 
@@ -68,11 +68,11 @@ given-none false = refl
 
 module _ (p : ℕ → Bool) {i j : ℕ} (apart : i ≢ j) where
   tally-at : (f : ℕ) (e : ℕ × ℕ)
-      → tally p (markAt i j f e) ≡ given (p (markOf f false)) (bit (fromTo i j e)) + given (p (markOf f true)) (bit (fromTo j i e))
+      → tally p (markAt i j f e) ≡ given (p (markOf f false)) (oneIf (fromTo i j e)) + given (p (markOf f true)) (oneIf (fromTo j i e))
   tally-at f e = go (fromTo i j e) (fromTo j i e) refl refl
     where
-      go : (a b : Bool) → fromTo i j e ≡ a → fromTo j i e ≡ b → tally p (pick a (markOf f false ∷ []) (pick b (markOf f true ∷ []) []))
-          ≡ given (p (markOf f false)) (bit a) + given (p (markOf f true)) (bit b)
+      go : (a b : Bool) → fromTo i j e ≡ a → fromTo j i e ≡ b → tally p (cond a (markOf f false ∷ []) (cond b (markOf f true ∷ []) []))
+          ≡ given (p (markOf f false)) (oneIf a) + given (p (markOf f true)) (oneIf b)
       go true true u v = absurd (apart (sym (fromTo-eq i j e u .0) ∙ fromTo-eq j i e v .0))
       go true false u v = omega (arith, given-one (p (markOf f false)), given-none (p (markOf f true)))
       go false true u v = omega (arith, given-one (p (markOf f true)), given-none (p (markOf f false)))
@@ -87,8 +87,8 @@ module _ (p : ℕ → Bool) {i j : ℕ} (apart : i ≢ j) where
     tally-append p (markAt i j f e) (marksIn i j f l),
     tally-at f e,
     tally-in f l,
-    given-more (p (markOf f false)) (bit (fromTo i j e)) (count i j l),
-    given-more (p (markOf f true)) (bit (fromTo j i e)) (count j i l),
+    given-more (p (markOf f false)) (oneIf (fromTo i j e)) (count i j l),
+    given-more (p (markOf f true)) (oneIf (fromTo j i e)) (count j i l),
   )
 
 module _ {i j : ℕ} (apart : i ≢ j) where
@@ -245,16 +245,16 @@ module _ {i j : ℕ} (apart : i ≢ j) where
       record {
         first-above = hx;
         second-above = hy;
-        first = in-range i j fs (faceOf x) (omega (arith, has-of (faceOf x), ap bit (eq-eqb (faceOf x) (faceOf x) refl)));
-        second = in-range i j fs (faceOf y) (omega (arith, has-of (faceOf y), ap bit (eq-eqb (faceOf y) (faceOf y) refl)));
+        first = in-range i j fs (faceOf x) (omega (arith, has-of (faceOf x), ap oneIf (eq-eqb (faceOf x) (faceOf x) refl)));
+        second = in-range i j fs (faceOf y) (omega (arith, has-of (faceOf y), ap oneIf (eq-eqb (faceOf y) (faceOf y) refl)));
         has-is = has-of;
         up-is = λ g back. sym (marks-run g back fs h) ∙ two (λ m. eqb (faceOf m) g && runsUp back m);
         ups = λ c. sym (marks-up c fs h) ∙ two (λ m. runsUp (c (faceOf m)) m);
         downs = λ c. sym (marks-down c fs h) ∙ two (λ m. not (runsUp (c (faceOf m)) m));
       }
     where
-      two : (p : ℕ → Bool) → tally p (marksFrom i j 0 fs) ≡ bit (p x) + bit (p y)
+      two : (p : ℕ → Bool) → tally p (marksFrom i j 0 fs) ≡ oneIf (p x) + oneIf (p y)
       two p = rw e (omega arith)
 
-      has-of : (g : ℕ) → has i j (getD fs g []) ≡ bit (eqb (faceOf x) g) + bit (eqb (faceOf y) g)
+      has-of : (g : ℕ) → has i j (getD fs g []) ≡ oneIf (eqb (faceOf x) g) + oneIf (eqb (faceOf y) g)
       has-of g = sym (marks-has g fs h) ∙ two (λ m. eqb (faceOf m) g)

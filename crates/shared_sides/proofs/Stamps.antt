@@ -1,6 +1,6 @@
 -- Stamps: the corners passed have the face's own stamp, so that a corner that has it already is one that comes twice.
 use mathlib.Core.Path.{_≡_, refl, sym, _∙_}
-use mathlib.Core.Bool.{Bool, true, false, _||_}
+use mathlib.Core.Bool.{Bool, true, false, _||_, cond}
 use mathlib.Core.List.{List, [], _∷_}
 use Prim.Native.Nat.{ℕ, _+_, _<_, _≤_, zero-le}
 use native.Mathlib.Decide.{ℕ-discrete}
@@ -9,7 +9,7 @@ use lib.Dec.{eqb}
 use lib.ListN.{length, getD, set, drop, drop-of-length-le}
 use lib.Seq.{getD-set-same, getD-set-other}
 use borrow.Author.Tests.{eq-eqb, ne-eqb}
-use Rattle.places.specs.Loops.{pick, anyOf}
+use Rattle.places.specs.Loops.{anyOf}
 use Rattle.places.proofs.Loops.{drop-more}
 use Rattle.exact.specs.Facing.{doubled}
 use Rattle.side_table.specs.Table.{Blank}
@@ -37,7 +37,7 @@ unfolding anyOf
 any-either p q s [] h = refl
 any-either p q s (x ∷ l) h = rw (h x, any-either p q s l h) (go (q x) (s x) (anyOf q l) (anyOf s l))
   where
-    go : (a b c d : Bool) → pick (a || b) true (d || c) ≡ (pick b true d || pick a true c)
+    go : (a b c d : Bool) → cond (a || b) true (d || c) ≡ (cond b true d || cond a true c)
     go true true c d = refl
     go true false c true = refl
     go true false c false = refl

@@ -1,7 +1,7 @@
 -- The table of marks: a mark that is put changes one pair's entries and no other's, and a loop that puts marks says what is left to put.
 use mathlib.Core.Path.{_≡_, refl, sym, _∙_, ap}
 use mathlib.Core.Logic.{_≢_}
-use mathlib.Core.Bool.{Bool, true, false, _&&_, true≢false, false≢true}
+use mathlib.Core.Bool.{Bool, true, false, _&&_, true≢false, false≢true, cond}
 use mathlib.Core.List.{List, [], _∷_, _++_, append-nil, append-assoc}
 use Prim.Native.Nat.{ℕ, _+_, _<_, _≤_}
 use native.Mathlib.Numerals.{add-one}
@@ -11,7 +11,6 @@ use lib.Dec.{eqb}
 use lib.ListN.{length, getD, set, drop, drop-of-length-le, length-append}
 use lib.Seq.{slice, getD-set-same, getD-set-other}
 use borrow.Author.Tests.{eq-eqb, ne-eqb}
-use Rattle.places.specs.Loops.{pick}
 use Rattle.places.specs.Ring.{sides, nextOf}
 use Rattle.places.proofs.Loops.{drop-more}
 use Rattle.places.proofs.Rings.{length-sides, side-at}
@@ -38,7 +37,7 @@ module _ {In : ℕ → Type 0} {at : ℕ → ℕ → ℕ} {n : ℕ} (tells : Tel
     (here : In low) (there : In high) (order : low < high) (above : 0 < m) where
   -- what is put there
   abbrev one : ℕ → ℕ → List ℕ
-  one i j = pick (eqb low i && eqb high j) (m ∷ []) []
+  one i j = cond (eqb low i && eqb high j) (m ∷ []) []
 
   one-here : one low high ≡ m ∷ []
   one-here = rw (eq-eqb low low refl, eq-eqb high high refl)
@@ -169,10 +168,10 @@ miss i j a b n = go (ℕ-discrete a i) (ℕ-discrete b j)
     go (yes p) (no q) = rw (eq-eqb a i p, ne-eqb b j q)
     go (no p) d = rw (ne-eqb a i p)
 
-pub side-up : (i j f a b : ℕ) → i < j → a < b → pick (eqb a i && eqb b j) (markOf f false ∷ []) [] ≡ markAt i j f (a, b)
+pub side-up : (i j f a b : ℕ) → i < j → a < b → cond (eqb a i && eqb b j) (markOf f false ∷ []) [] ≡ markAt i j f (a, b)
 side-up i j f a b o h = rw (miss j i a b (λ p q. absurd (omega arith)))
 
-pub side-down : (i j f a b : ℕ) → i < j → b < a → pick (eqb b i && eqb a j) (markOf f true ∷ []) [] ≡ markAt i j f (a, b)
+pub side-down : (i j f a b : ℕ) → i < j → b < a → cond (eqb b i && eqb a j) (markOf f true ∷ []) [] ≡ markAt i j f (a, b)
 side-down i j f a b o h = rw (miss i j a b (λ p q. absurd (omega arith)), and-comm (eqb b i) (eqb a j))
 
 pub side-none : (i j f a b : ℕ) → i < j → a ≡ b → markAt i j f (a, b) ≡ []

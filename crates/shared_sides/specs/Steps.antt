@@ -2,23 +2,23 @@
 -- The marks that faces leave at their sides: `at` says which entry of the table is that for a row and a column,
 -- and In which vertices have one.
 use mathlib.Core.Path.{_≡_}
-use mathlib.Core.Bool.{Bool, true, false, not, _&&_, Bool·beq}
+use mathlib.Core.Bool.{Bool, true, false, not, _&&_, Bool·beq, cond}
 use mathlib.Core.List.{List, [], _∷_, _++_}
 use Prim.Native.Nat.{ℕ, suc, _+_, _*_, _-_, _<_, _≤_}
 use lib.Dec.{eqb, ltb}
 use lib.ListN.{length, getD}
-use Rattle.places.specs.Loops.{pick, anyOf}
+use Rattle.places.specs.Loops.{anyOf, oneIf}
 use Rattle.places.specs.Ring.{sides}
-use Rattle.exact.specs.Sides.{bit, fromTo, count, runs}
+use Rattle.exact.specs.Sides.{fromTo, count, runs}
 use Rattle.exact.specs.Facing.{faceBy, reversedBy, occurs, has}
 use Rattle.side_table.specs.Numbers.{Known, Numbering, entryOf}
 
 -- ---- a mark: the number of the face and 1, and 256 more where the face runs the side down, from the higher vertex to the lower
 abbrev pub markOf : ℕ → Bool → ℕ
-markOf f down = pick down (f + 257) (f + 1)
+markOf f down = cond down (f + 257) (f + 1)
 
 abbrev pub faceOf : ℕ → ℕ
-faceOf m = pick (ltb m 257) (m - 1) (m - 257)
+faceOf m = cond (ltb m 257) (m - 1) (m - 257)
 
 abbrev pub downOf : ℕ → Bool
 downOf m = not (ltb m 257)
@@ -30,7 +30,7 @@ runsUp back m = Bool·beq back (downOf m)
 -- ---- the marks at the side between i and j, i the lower, in the order in which they are left
 -- what the face f leaves there for one of its sides, and for sides one after the other
 abbrev pub markAt : ℕ → ℕ → ℕ → ℕ × ℕ → List ℕ
-markAt i j f e = pick (fromTo i j e) (markOf f false ∷ []) (pick (fromTo j i e) (markOf f true ∷ []) [])
+markAt i j f e = cond (fromTo i j e) (markOf f false ∷ []) (cond (fromTo j i e) (markOf f true ∷ []) [])
 
 abbrev pub marksIn : ℕ → ℕ → ℕ → List (ℕ × ℕ) → List ℕ
 marksIn i j f [] = []
@@ -44,7 +44,7 @@ marksFrom i j f (face ∷ fs) = marksIn i j f (sides face) ++ marksFrom i j (suc
 -- ---- the table
 -- the marks that two entries hold; 0 is none
 abbrev pub held : ℕ → ℕ → List ℕ
-held x y = pick (eqb x 0) [] (x ∷ pick (eqb y 0) [] (y ∷ []))
+held x y = cond (eqb x 0) [] (x ∷ cond (eqb y 0) [] (y ∷ []))
 
 -- the marks in the table at the side between i and j: the first in the lower one's row, the second in the higher one's
 unfoldable pub heldAt : (ℕ → ℕ → ℕ) → List ℕ → ℕ → ℕ → List ℕ
@@ -77,10 +77,10 @@ pub record Ready (number : List ℕ) (k : ℕ) (t : List ℕ) : Type 0 where
 
 -- ---- the marks at a side from a to b, whichever is the lower
 unfoldable pub firstAt : (ℕ → ℕ → ℕ) → List ℕ → ℕ → ℕ → ℕ
-firstAt at t a b = pick (ltb a b) (getD t (at a b) 0) (getD t (at b a) 0)
+firstAt at t a b = cond (ltb a b) (getD t (at a b) 0) (getD t (at b a) 0)
 
 unfoldable pub secondAt : (ℕ → ℕ → ℕ) → List ℕ → ℕ → ℕ → ℕ
-secondAt at t a b = pick (ltb a b) (getD t (at b a) 0) (getD t (at a b) 0)
+secondAt at t a b = cond (ltb a b) (getD t (at b a) 0) (getD t (at a b) 0)
 
 -- a side between two different vertices has no second mark
 unfoldable pub lonely : (ℕ → ℕ → ℕ) → List ℕ → ℕ × ℕ → Bool
@@ -104,11 +104,11 @@ pub record Pair (fs : List (List ℕ)) (i j x y : ℕ) : Type 0 where
   pub second-above : 0 < y
   pub first : faceOf x < length fs
   pub second : faceOf y < length fs
-  pub has-is : (g : ℕ) → has i j (getD fs g []) ≡ bit (eqb (faceOf x) g) + bit (eqb (faceOf y) g)
+  pub has-is : (g : ℕ) → has i j (getD fs g []) ≡ oneIf (eqb (faceOf x) g) + oneIf (eqb (faceOf y) g)
   pub up-is : (g : ℕ) (back : Bool)
-      → count i j (sides (faceBy back (getD fs g []))) ≡ bit (eqb (faceOf x) g && runsUp back x) + bit (eqb (faceOf y) g && runsUp back y)
-  pub ups : (c : ℕ → Bool) → runs i j (reversedBy c fs) ≡ bit (runsUp (c (faceOf x)) x) + bit (runsUp (c (faceOf y)) y)
-  pub downs : (c : ℕ → Bool) → runs j i (reversedBy c fs) ≡ bit (not (runsUp (c (faceOf x)) x)) + bit (not (runsUp (c (faceOf y)) y))
+      → count i j (sides (faceBy back (getD fs g []))) ≡ oneIf (eqb (faceOf x) g && runsUp back x) + oneIf (eqb (faceOf y) g && runsUp back y)
+  pub ups : (c : ℕ → Bool) → runs i j (reversedBy c fs) ≡ oneIf (runsUp (c (faceOf x)) x) + oneIf (runsUp (c (faceOf y)) y)
+  pub downs : (c : ℕ → Bool) → runs j i (reversedBy c fs) ≡ oneIf (not (runsUp (c (faceOf x)) x)) + oneIf (not (runsUp (c (faceOf y)) y))
 
 -- the table holds the two marks of each side that occurs
 pub record Mates (In : ℕ → Type 0) (at : ℕ → ℕ → ℕ) (t : List ℕ) (fs : List (List ℕ)) : Type 0 where

@@ -2,13 +2,13 @@
 // for each vertex that occurs: at the side between a lower and a higher vertex the first mark stands in the lower one's row,
 // the second in the higher one's.
 ghost use mathlib.Core.Path.{_≡_};
-ghost use mathlib.Core.Bool.{Bool, true, false, not, _&&_};
+ghost use mathlib.Core.Bool.{Bool, true, false, not, _&&_, cond};
 ghost use mathlib.Core.List.{[], _∷_};
 ghost use Prim.Native.Nat.{ℕ, _+_, _*_, _<_, _≤_};
 ghost use lib.Dec.{T, eqb};
 ghost use lib.ListN.{length};
 ghost use Rattle.places.specs.Limits.{mostVertices, mostFaces};
-ghost use Rattle.places.specs.Loops.{pick, anyOf};
+ghost use Rattle.places.specs.Loops.{anyOf};
 ghost use Rattle.places.specs.Lists.{Each};
 ghost use Rattle.places.specs.Ring.{sides};
 ghost use Rattle.exact.specs.Facing.{doubled, unfit};
@@ -52,7 +52,7 @@ fn put(table: &mut [u16], number: &[u16], k: usize, low: usize, high: usize, m: 
     requires { ⌜ Ready (now number) k (now table) ⌝ }
     requires { ⌜ Known (now number) k low × Known (now number) k high × (low < high) × (0 < m) ⌝ }
     ensures { λ r. ⌜ Left (Known (now (number .entry)) k) (entryOf (now (number .entry)) k) (now (table .entry))
-        (λ i j. pick (eqb low i && eqb high j) (m ∷ []) []) (now (table .exit)) r ⌝ }
+        (λ i j. cond (eqb low i && eqb high j) (m ∷ []) []) (now (table .exit)) r ⌝ }
 {
     let first = side_table::entry(number, k, low, high);
     if table[first] == 0 {

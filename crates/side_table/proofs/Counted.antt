@@ -9,19 +9,19 @@ use lib.Dec.{eqb}
 use lib.ListN.{length, getD, set, length-set}
 use lib.Seq.{slice, getD-set-same, getD-set-other}
 use borrow.Author.Tests.{eq-eqb, ne-eqb}
-use Rattle.places.specs.Loops.{foldList}
+use Rattle.places.specs.Loops.{foldList, oneIf}
 use Rattle.places.specs.Lists.{Each}
 use Rattle.places.specs.Ring.{walk, sides, foldPairs}
 use Rattle.places.proofs.Lists.{each-nil, each-cons, each-head, each-tail, each-append, each-slice}
-use Rattle.exact.specs.Sides.{allSides, bit, fromTo, count, runs}
+use Rattle.exact.specs.Sides.{allSides, fromTo, count, runs}
 use Rattle.cell.specs.Faces.{facesFrom, facesOf}
 use Rattle.side_table.specs.Table.{oneMore, countSide, countFace, countFaces, Blank}
 
 -- one more at k
-more-at : (t : List ℕ) (k j : ℕ) → k < length t → getD (oneMore k t) j 0 ≡ getD t j 0 + bit (eqb k j)
+more-at : (t : List ℕ) (k j : ℕ) → k < length t → getD (oneMore k t) j 0 ≡ getD t j 0 + oneIf (eqb k j)
 more-at t k j h = go (ℕ-discrete k j)
   where
-    go : Dec (k ≡ j) → getD (set t k (getD t k 0 + 1)) j 0 ≡ getD t j 0 + bit (eqb k j)
+    go : Dec (k ≡ j) → getD (set t k (getD t k 0 + 1)) j 0 ≡ getD t j 0 + oneIf (eqb k j)
     go (yes p) = rw (← p, eq-eqb k k refl, getD-set-same t k (getD t k 0 + 1) 0 h)
     go (no p) = rw (ne-eqb k j p, getD-set-other t k j (getD t k 0 + 1) 0 (λ e. p (sym e))) (omega arith)
 
@@ -52,13 +52,13 @@ module _ {In : ℕ → Type 0} where
 
 -- ---- what is counted
 pairs-append : {S : Type 0} (f : ℕ → ℕ → S → S) (l m : List (ℕ × ℕ)) (s : S) → foldPairs f (l ++ m) s ≡ foldPairs f m (foldPairs f l s)
-unfolding foldPairs
+unfolding foldList
 pairs-append f [] m s = refl
 pairs-append f (e ∷ l) m s = pairs-append f l m (f (e .0) (e .1) s)
 
 -- face by face is side by side
 faces-pairs : (at : ℕ → ℕ → ℕ) (fs : List (List ℕ)) (t : List ℕ) → countFaces at fs t ≡ foldPairs (countSide at) (allSides fs) t
-unfolding countFaces countFace foldList foldPairs
+unfolding countFaces countFace foldList
 faces-pairs at [] t = refl
 faces-pairs at (f ∷ fs) t =
     faces-pairs at fs (foldPairs (countSide at) (sides f) t) ∙ sym (pairs-append (countSide at) (sides f) (allSides fs) t)
@@ -75,7 +75,7 @@ module _ {In : ℕ → Type 0} {at : ℕ → ℕ → ℕ} {n : ℕ} (tells : Tel
 
   counted : (l : List (ℕ × ℕ)) (t : List ℕ) (x y : ℕ) → Each (0, 0) (Both In) l → n ≤ length t → In x → In y
       → getD (foldPairs (countSide at) l t) (at x y) 0 ≡ getD t (at x y) 0 + count x y l
-  unfolding foldPairs
+  unfolding foldList
   counted [] t x y b h hx hy = omega arith
   counted (e ∷ l) t x y b h hx hy =
       let k : at (e .0) (e .1) < length t = omega (arith, tells .within (each-head b .0) (each-head b .1)) in
@@ -83,7 +83,7 @@ module _ {In : ℕ → Type 0} {at : ℕ → ℕ → ℕ} {n : ℕ} (tells : Tel
         arith,
         counted l (countSide at (e .0) (e .1) t) x y (each-tail b) (rw length-set h) hx hy,
         more-at t (at (e .0) (e .1)) (at x y) k,
-        ap bit (one-entry (e .0) (e .1) x y (each-head b .0) (each-head b .1) hx hy),
+        ap oneIf (one-entry (e .0) (e .1) x y (each-head b .0) (each-head b .1) hx hy),
       )
 
 -- a blank table in which the sides of the faces were counted has at each entry how often its side is run

@@ -2,7 +2,7 @@
 -- stays; one that has none is not in it, so it comes to the end, and k is its number.
 use mathlib.Core.Path.{_≡_, refl, sym, _∙_, ap}
 use mathlib.Core.Logic.{_≢_}
-use mathlib.Core.Bool.{Bool, true, false}
+use mathlib.Core.Bool.{Bool, true, false, cond}
 use mathlib.Core.List.{List, [], _∷_, _++_}
 use Prim.Native.Nat.{ℕ, zero, suc, _+_, _<_}
 use native.Mathlib.Decide.{ℕ-discrete}
@@ -11,7 +11,7 @@ use lib.Dec.{eqb}
 use lib.ListN.{length, getD, set, length-append, List·getD-append}
 use lib.Seq.{getD-set-same, getD-set-other, getD-at}
 use borrow.Author.Tests.{eq-eqb, ne-eqb}
-use Rattle.places.specs.Loops.{pick, anyOf}
+use Rattle.places.specs.Loops.{anyOf}
 use Rattle.side_table.specs.Numbers.{Numbering, mention, Follows}
 
 -- ---- whether a vertex is in a list
@@ -21,7 +21,7 @@ in-list x [] i h e = absurd (omega arith)
 in-list x (v ∷ vs) zero h e = rw (eq-eqb x v e)
 in-list x (v ∷ vs) (suc i) h e = rw (in-list x vs i (omega arith) e) (either (eqb x v))
   where
-    either : (b : Bool) → pick b true true ≡ true
+    either : (b : Bool) → cond b true true ≡ true
     either true = refl
     either false = refl
 

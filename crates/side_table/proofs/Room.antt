@@ -7,6 +7,7 @@ use native.Mathlib.Omega.{arith}
 use lib.ListN.{length, getD, set, length-set, replicate, length-replicate}
 use lib.Seq.{slice, length-slice}
 use Rattle.places.specs.Ring.{sides, foldPairs}
+use Rattle.places.specs.Loops.{foldList}
 use Rattle.places.proofs.Rings.{length-sides}
 use Rattle.side_table.specs.Table.{oneMore, countSide, countFace, Room, Blank}
 
@@ -30,7 +31,7 @@ room-less m′ r h = record { wide = r .wide; spare = λ j. omega (arith, r .spa
 
 room-pairs : {n m : ℕ} (at : ℕ → ℕ → ℕ) (l : List (ℕ × ℕ)) (t : List ℕ) → length l ≤ m → Room n m t
     → Room n (m - length l) (foldPairs (countSide at) l t)
-unfolding foldPairs
+unfolding foldList
 room-pairs {n} {m} at [] t h r = room-less (m - 0) r (omega arith)
 room-pairs {n} {m} at (e ∷ l) t h r =
     let rest = room-pairs at l (countSide at (e .0) (e .1) t) (omega arith) (room-side (at (e .0) (e .1)) (m - 1) r (omega arith)) in

@@ -1,4 +1,5 @@
 -- Numbers for the vertices that occur: 0, 1, 2 .. in the order of first mention. A vertex without a number has 256 in its place.
+use mathlib.Core.Bool.{cond}
 use mathlib.Core.Path.{_≡_}
 use mathlib.Core.Logic.{_≢_}
 use mathlib.Core.List.{List, [], _∷_, _++_}
@@ -7,8 +8,7 @@ use lib.Dec.{T, eqb}
 use lib.ListN.{length, getD}
 use Rattle.places.specs.Limits.{mostVertices, mostCorners}
 use Rattle.places.specs.Lists.{Each}
-use Rattle.places.specs.Loops.{pick, anyOf, foldList}
-use Rattle.exact.specs.Sides.{bit}
+use Rattle.places.specs.Loops.{anyOf, foldList, oneIf}
 use Rattle.cell.specs.Faces.{rises}
 
 -- x has a number, one below k
@@ -19,7 +19,7 @@ pub record Known (number : List ℕ) (k x : ℕ) : Type 0 where
 -- how many have no number
 abbrev pub unnamed : List ℕ → ℕ
 unnamed [] = 0
-unnamed (n ∷ ns) = bit (eqb n 256) + unnamed ns
+unnamed (n ∷ ns) = oneIf (eqb n 256) + unnamed ns
 
 -- k of 256 vertices have a number, each another below k
 pub record Numbering (number : List ℕ) (k : ℕ) : Type 0 where
@@ -30,7 +30,7 @@ pub record Numbering (number : List ℕ) (k : ℕ) : Type 0 where
 
 -- the list with x at its end, unless x is in it
 abbrev pub mention : ℕ → List ℕ → List ℕ
-mention x vs = pick (anyOf (eqb x) vs) vs (vs ++ x ∷ [])
+mention x vs = cond (anyOf (eqb x) vs) vs (vs ++ x ∷ [])
 
 -- the vertices of a corner list, each once, in the order of first mention
 unfoldable pub mentioned : List ℕ → List ℕ

@@ -9,8 +9,8 @@ use native.Mathlib.Omega.{arith}
 use lib.ListN.{length, take, drop, length-append}
 use lib.Seq.{take-at}
 use Rattle.places.specs.Lists.{Each}
-use Rattle.places.specs.Loops.{pick, foldList, countOf}
-use Rattle.places.proofs.Loops.{fold-append}
+use Rattle.places.specs.Loops.{oneIf, foldList, countOf}
+use Rattle.places.proofs.Loops.{one-at-most, fold-append}
 use Rattle.floats.specs.F64.{zero64}
 use Rattle.flat.specs.Points.{Point, centroidOf}
 use Rattle.flat.specs.Steps.{Inside}
@@ -37,7 +37,7 @@ module _ (vs : List Point) (ref : Point) where
   measured-from (f ∷ fs) m =
       let ts = cutOf vs f .triangles in
       let rest = trianglesOf vs fs in
-      let one : ℕ = pick (isShort vs f) 1 0 in
+      let one : ℕ = oneIf (isShort vs f) in
       let a : m .triangles + length ts + length rest ≡ m .triangles + (length ts + length rest) = omega arith in
       let b : m .short + one + countOf (isShort vs) fs ≡ m .short + (one + countOf (isShort vs) fs) = omega arith in
       measured-from fs (addFace vs ref f m) ∙ rw (a, b, fold-append (addTriple vs ref) ts rest (m .v6), length-append ts rest)
@@ -81,8 +81,4 @@ cut-front vs f {r} {out} {out′} inside room kept s =
 pub added : (vs : List Point) (ref : Point) (f : List ℕ) (m r : Measured) → r ≡ addFace vs ref f m
     → (r .triangles ≤ m .triangles + length f) × (r .short ≤ m .short + 1)
 unfolding addFace
-added vs ref f m r e = rw e (omega (arith, cut-room vs f), omega (arith, once (isShort vs f)))
-  where
-    once : (b : Bool) → pick {A = ℕ} b 1 0 ≤ 1
-    once true = omega arith
-    once false = omega arith
+added vs ref f m r e = rw e (omega (arith, cut-room vs f), omega (arith, one-at-most (isShort vs f)))

@@ -3,7 +3,7 @@ use Rattle.volume.specs.Volume.{addTriple, v6Of, addMoment}
 use Prim.Native.Nat.{ℕ, _+_}
 use mathlib.Core.List.{List}
 use lib.ListN.{length}
-use Rattle.places.specs.Loops.{pick, foldList}
+use Rattle.places.specs.Loops.{foldList, oneIf}
 use Rattle.flat.specs.Points.{Point}
 use Rattle.volume.specs.Triangles.{trianglesOf, shortOf, isShort}
 use Rattle.volume.specs.declared.Measured.{Measured}
@@ -21,7 +21,7 @@ addFace vs ref f m =
     record {
       v6 = foldList (addTriple vs ref) (cutOf vs f .triangles) (m .v6);
       triangles = m .triangles + length (cutOf vs f .triangles);
-      short = m .short + pick (isShort vs f) 1 0;
+      short = m .short + oneIf (isShort vs f);
     }
 
 -- the moments of its triangles

@@ -1,9 +1,10 @@
 -- v6 sums triple products about the vertex centroid; volume is |v6| / 6; the geometric centroid. Each step is one operation of f64.
+use mathlib.Core.Bool.{cond}
 use Prim.Native.Nat.{ℕ}
 use mathlib.Core.List.{List}
 use lib.ListN.{getD}
 use lib.Ieee.{Float, binary64, ofBits, lt}
-use Rattle.places.specs.Loops.{pick, foldList}
+use Rattle.places.specs.Loops.{foldList}
 use Rattle.floats.specs.F64.{_+f_, _-f_, _*f_, _/f_, zero64, four64, six64}
 use Rattle.floats.specs.Pick.{magnitudeOf}
 use Rattle.flat.specs.Points.{Point, at, pointBy, vertexOf, plusOf, minusOf, overOf, centroidOf}
@@ -66,7 +67,7 @@ tiny64 = ofBits binary64 0x39b4_484b_feeb_c2a0
 unfoldable pub balanceOf : List Point → Point → Moments → Point
 balanceOf vs ref m =
     let g = overOf 3 (m .sum) (four64 *f m .v6) in
-    pick (lt (magnitudeOf (m .v6)) tiny64) (vertexOf vs 0) (plusOf 3 ref g)
+    cond (lt (magnitudeOf (m .v6)) tiny64) (vertexOf vs 0) (plusOf 3 ref g)
 
 unfoldable pub geometricCentroidOf : List Point → List (List ℕ) → Point
 geometricCentroidOf vs fs = balanceOf vs (centroidOf 3 vs) (momentsOf vs fs)

@@ -8,7 +8,7 @@ ghost use lib.ListN.{length};
 ghost use Rattle.places.specs.Lent.{old};
 ghost use Rattle.places.specs.Limits.{mostFaces, mostCorners};
 ghost use Rattle.places.specs.Lists.{Each};
-ghost use Rattle.places.specs.Loops.{pick, foldList};
+ghost use Rattle.places.specs.Loops.{foldList, oneIf};
 ghost use Rattle.flat.specs.Points.{verticesOf, centroidOf};
 ghost use Rattle.flat.specs.Steps.{Inside};
 ghost use Rattle.cut.specs.Cut.{cutOf};
@@ -82,7 +82,7 @@ fn add_triangles(coords: &[f64], tris: &[[u32; 3]], refp: [f64; 3], v: f64) -> f
 // 1 for a face of n corners, three or more, that gave fewer than n - 2 triangles, else 0.
 fn short_share(n: usize, triangles: usize) -> usize
     requires { ⌜ triangles ≤ mostCorners ⌝ }
-    ensures { λ r. ⌜ (r ≡ pick (leb 3 n && ltb (triangles + 2) n) 1 0) × (r ≤ 1) ⌝ }
+    ensures { λ r. ⌜ (r ≡ oneIf (leb 3 n && ltb (triangles + 2) n)) × (r ≤ 1) ⌝ }
 {
     if n < 3 {
         return 0;

@@ -2,7 +2,7 @@
 -- The loop's invariant says: what is left to do from the outline that stands makes the whole outcome.
 use mathlib.Core.Path.{_≡_, refl, sym, ap, _∙_}
 use mathlib.Core.Logic.{_≢_}
-use mathlib.Core.Bool.{Bool, true, false, not}
+use mathlib.Core.Bool.{Bool, true, false, not, cond}
 use mathlib.Core.List.{List, [], _∷_}
 use Prim.Native.Nat.{ℕ, _+_, _<_, _≤_, zero-le}
 use native.Mathlib.Omega.{arith}
@@ -11,7 +11,6 @@ use lib.Seq.{length-take-le}
 use lib.Dec.{ltb}
 use lib.Ieee.{Float}
 use borrow.Author.Tests.{lt-ltb, le-ltb, ltb-true, ltb-false}
-use Rattle.places.specs.Loops.{pick}
 use Rattle.places.proofs.Loops.{drop-more}
 use Rattle.flat.specs.Points.{Point}
 use Rattle.work_lists.specs.declared.Step.{Step}
@@ -36,7 +35,7 @@ made-is : {room n : ℕ} {c : Change} {l : List Point} → Shows room c (Made n)
 made-is (shows-made h e) = (h, ap made (sym e))
 
 -- ---- the two lists
-pick-not : {A : Type 0} (s : Bool) (x y : A) → pick (not s) y x ≡ pick s x y
+pick-not : {A : Type 0} (s : Bool) (x y : A) → cond (not s) y x ≡ cond s x y
 pick-not true x y = refl
 pick-not false x y = refl
 
@@ -82,7 +81,7 @@ pub record Alternating {E : Type 0} (read : List Float → List Point) (room : �
   pub second-long : length b ≡ length b₀
   pub first-room : room ≤ length (read a)
   pub second-room : room ≤ length (read b)
-  pub so : runOf change (drop i es) (outline second (take n (pick second (read b) (read a)))) ≡ left
+  pub so : runOf change (drop i es) (outline second (take n (cond second (read b) (read a)))) ≡ left
 
 module _ {E : Type 0} {read : List Float → List Point} {room : ℕ} {change : E → List Point → Change} {es : List E} {left : Outcome} where
   pub alternate-start : {n : ℕ} {a b : List Float} → n ≤ room → room ≤ length (read a) → room ≤ length (read b)
@@ -92,15 +91,15 @@ module _ {E : Type 0} {read : List Float → List Point} {room : ℕ} {change : 
 
   module _ {a₀ b₀ a b : List Float} {i n : ℕ} {second : Bool} (q : Alternating read room change es left a₀ b₀ i n second a b) where
     -- the list that is read holds the outline
-    stands-in : n ≤ length (pick second (read b) (read a))
+    stands-in : n ≤ length (cond second (read b) (read a))
     stands-in = go second
       where
-        go : (s : Bool) → n ≤ length (pick s (read b) (read a))
+        go : (s : Bool) → n ≤ length (cond s (read b) (read a))
         go true = omega (arith, q .few, q .second-room)
         go false = omega (arith, q .few, q .first-room)
 
     abbrev standing : List Point
-    standing = take n (pick second (read b) (read a))
+    standing = take n (cond second (read b) (read a))
 
     -- what the next one makes of the outline decides
     next : {e : E} (d : E) → i < length es → e ≡ getD es i d
@@ -155,7 +154,7 @@ module _ {E : Type 0} {read : List Float → List Point} {room : ℕ} {change : 
 
     pub alternate-end : length es ≤ i → n ≢ 0 → Ended left (Outline n second) (read a) (read b)
     alternate-end h z =
-        let l : length standing ≡ n = length-take-le n (pick second (read b) (read a)) stands-in in
+        let l : length standing ≡ n = length-take-le n (cond second (read b) (read a)) stands-in in
         rw (last h) (record { answer = rw l at (outline-answer second standing (omega arith)); stands = rw l })
 
 -- ---- what is to be clipped must have room in the shorter list, and then has it in both
@@ -163,7 +162,7 @@ pub shorter-fits : (a b : ℕ) → (shorterOf a b ≤ a) × (shorterOf a b ≤ b
 unfolding shorterOf
 shorter-fits a b = go (ltb b a) refl
   where
-    go : (t : Bool) → ltb b a ≡ t → (pick t b a ≤ a) × (pick t b a ≤ b)
+    go : (t : Bool) → ltb b a ≡ t → (cond t b a ≤ a) × (cond t b a ≤ b)
     go true e = let h : b < a = ltb-true b a e in (omega arith, omega arith)
     go false e = let h : a ≤ b = ltb-false b a e in (omega arith, omega arith)
 

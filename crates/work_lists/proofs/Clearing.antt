@@ -2,7 +2,7 @@
 -- for points of any number of coordinates.
 use mathlib.Core.Path.{_≡_, refl, sym, ap, _∙_}
 use mathlib.Core.Logic.{_⊎_, inl, inr}
-use mathlib.Core.Bool.{Bool, true, false, Bool·beq}
+use mathlib.Core.Bool.{Bool, true, false, Bool·beq, cond}
 use mathlib.Core.List.{List, [], _∷_, _++_}
 use Prim.Native.Nat.{ℕ, _+_, _-_, _*_, _≤_}
 use native.Mathlib.Nat.{sub-zero}
@@ -10,7 +10,6 @@ use native.Mathlib.Omega.{arith}
 use lib.ListN.{length, take, replicate, length-take}
 use lib.Seq.{length-take-le}
 use lib.Ieee.{Float}
-use Rattle.places.specs.Loops.{pick}
 use Rattle.places.specs.Stored.{joined}
 use Rattle.floats.specs.F64.{zero64}
 use Rattle.flat.specs.Points.{Point}
@@ -21,20 +20,20 @@ use Rattle.work_lists.specs.WorkLists.{Outcome, nothing, noRoom, outline
 use Rattle.work_lists.specs.Steps.{shownNumbers, Ended, Settled}
 
 -- ---- the list that shows m numbers, and the other, which shows none
-pub of-first : (s : Bool) (m : ℕ) → pick (Bool·beq s false) m 0 ≡ pick s 0 m
+pub of-first : (s : Bool) (m : ℕ) → cond (Bool·beq s false) m 0 ≡ cond s 0 m
 of-first true m = refl
 of-first false m = refl
 
-pub of-second : (s : Bool) (m : ℕ) → pick (Bool·beq s true) m 0 ≡ pick s m 0
+pub of-second : (s : Bool) (m : ℕ) → cond (Bool·beq s true) m 0 ≡ cond s m 0
 of-second true m = refl
 of-second false m = refl
 
-pub shows-in : (s : Bool) (m : ℕ) (a b : List Float) → (pick (Bool·beq s false) m 0 ≤ length a) × (pick (Bool·beq s true) m 0 ≤ length b)
-    → m ≤ length (pick s b a)
+pub shows-in : (s : Bool) (m : ℕ) (a b : List Float) → (cond (Bool·beq s false) m 0 ≤ length a) × (cond (Bool·beq s true) m 0 ≤ length b)
+    → m ≤ length (cond s b a)
 shows-in true m a b h = h .1
 shows-in false m a b h = h .0
 
-pub shows-least : (s : Bool) (m : ℕ) (a b : List Float) → (pick (Bool·beq s false) m 0 ≤ length a) × (pick (Bool·beq s true) m 0 ≤ length b)
+pub shows-least : (s : Bool) (m : ℕ) (a b : List Float) → (cond (Bool·beq s false) m 0 ≤ length a) × (cond (Bool·beq s true) m 0 ≤ length b)
     → (m ≤ length a) ⊎ (m ≤ length b)
 shows-least true m a b h = inr (h .1)
 shows-least false m a b h = inl (h .0)
@@ -43,7 +42,7 @@ shows-least false m a b h = inl (h .0)
 abbrev shownIn : Outcome → Bool → List Point
 shownIn nothing which = []
 shownIn noRoom which = []
-shownIn (outline second ps) which = pick (Bool·beq second which) ps []
+shownIn (outline second ps) which = cond (Bool·beq second which) ps []
 
 -- a list after an outcome: those points, then +0
 after-is : (o : Outcome) (which : Bool) (n : ℕ)
@@ -53,7 +52,7 @@ after-is nothing which n = rw sub-zero
 after-is noRoom which n = rw sub-zero
 after-is (outline second ps) which n = go (Bool·beq second which)
   where
-    go : (t : Bool) → showing t ps n ≡ joined (pick t ps []) ++ replicate (n - length (joined (pick t ps []))) zero64
+    go : (t : Bool) → showing t ps n ≡ joined (cond t ps []) ++ replicate (n - length (joined (cond t ps []))) zero64
     go true = refl
     go false = rw sub-zero
 
@@ -63,18 +62,18 @@ numbers-are nothing size which = omega arith
 numbers-are noRoom size which = omega arith
 numbers-are (outline second []) size which = go (Bool·beq second which)
   where
-    go : (t : Bool) → 0 ≡ length (pick {A = List Point} t [] []) * size
+    go : (t : Bool) → 0 ≡ length (cond {A = List Point} t [] []) * size
     go true = omega arith
     go false = omega arith
 numbers-are (outline second (p ∷ ps)) size which = go (Bool·beq second which)
   where
-    go : (t : Bool) → pick t (length (p ∷ ps) * size) 0 ≡ length (pick t (p ∷ ps) []) * size
+    go : (t : Bool) → cond t (length (p ∷ ps) * size) 0 ≡ length (cond t (p ∷ ps) []) * size
     go true = refl
     go false = omega arith
 
 -- and they stand at its front
 stand-there : {o : Outcome} {r : Left} {a b : List Point} (which : Bool) → Ended o r a b
-    → take (length (shownIn o which)) (pick which b a) ≡ shownIn o which
+    → take (length (shownIn o which)) (cond which b a) ≡ shownIn o which
 stand-there {o = nothing} which q = refl
 stand-there {o = noRoom} which q = refl
 stand-there {o = outline true ps} true q = q .stands

@@ -1,13 +1,12 @@
 -- How points are stored, two numbers or three each; what an answer says of the outcome, and the stretch of numbers that has its points.
 use mathlib.Core.Path.{_≡_, refl, sym, ap}
 use mathlib.Core.Logic.{_≢_}
-use mathlib.Core.Bool.{Bool, true, false}
+use mathlib.Core.Bool.{Bool, true, false, cond}
 use mathlib.Core.List.{List, [], _∷_}
 use Prim.Native.Nat.{ℕ, zero, suc, _*_, _/_, _≤_}
 use native.Mathlib.Omega.{arith}
 use lib.ListN.{length, take, length-take}
 use lib.Ieee.{Float}
-use Rattle.places.specs.Loops.{pick}
 use Rattle.places.specs.Stored.{inThrees, inPairs, joined}
 use Rattle.places.proofs.Stored.{length-threes, length-pairs, threes-take, pairs-take}
 use Rattle.flat.specs.Points.{Point}
@@ -63,31 +62,31 @@ room-lacks {o = outline s []} q = let z : _≡_ {A = ℕ} 0 1 = cc (q .answer) i
 room-lacks {o = outline s (p ∷ ps)} q = let z : _≡_ {A = ℕ} 0 1 = cc (q .answer) in absurd (omega arith)
 
 outline-is : {o : Outcome} {n : ℕ} {second : Bool} {a b : List Point} → Ended o (Outline n second) a b
-    → (o ≡ outline second (take n (pick second b a))) × (n ≤ length (pick second b a))
+    → (o ≡ outline second (take n (cond second b a))) × (n ≤ length (cond second b a))
 outline-is {o = nothing} q = let z : _≡_ {A = ℕ} 0 1 = cc (q .answer) in absurd (omega arith)
 outline-is {o = noRoom} q = let z : _≡_ {A = ℕ} 0 1 = cc (q .answer) in absurd (omega arith)
 outline-is {o = outline s []} q = let z : _≡_ {A = ℕ} 0 1 = cc (q .answer) in absurd (omega arith)
 outline-is {o = outline s (p ∷ ps)} {n} {second} {a} {b} q =
     let e : n ≡ length (p ∷ ps) = cc (q .answer) in
     let f : second ≡ s = cc (q .answer) in
-    rw (e, f) (ap (outline s) (sym (q .stands)), omega (arith, length-take (length (p ∷ ps)) (pick s b a), ap length (q .stands)))
+    rw (e, f) (ap (outline s) (sym (q .stands)), omega (arith, length-take (length (p ∷ ps)) (cond s b a), ap length (q .stands)))
 
 -- ---- the outline that an answer shows, by the numbers of its list
-pick-of : {A B : Type 0} (f : A → B) (s : Bool) (x y : A) → pick s (f x) (f y) ≡ f (pick s x y)
+pick-of : {A B : Type 0} (f : A → B) (s : Bool) (x y : A) → cond s (f x) (f y) ≡ f (cond s x y)
 pick-of f true x y = refl
 pick-of f false x y = refl
 
 module _ {size : ℕ} {read : List Float → List Point} (s : Reads size read) {o : Outcome} {n : ℕ} {second : Bool} {a b : List Float}
     (q : Ended o (Outline n second) (read a) (read b)) where
-  pub outline-left : o ≡ outline second (take n (read (pick second b a)))
+  pub outline-left : o ≡ outline second (take n (read (cond second b a)))
   outline-left = rw (pick-of read second b a) at (outline-is q .0)
 
-  pub outline-fits : n * size ≤ length (pick second b a)
-  outline-fits = s .fits n (pick second b a) (rw (pick-of read second b a) at (outline-is q .1))
+  pub outline-fits : n * size ≤ length (cond second b a)
+  outline-fits = s .fits n (cond second b a) (rw (pick-of read second b a) at (outline-is q .1))
 
   pub outline-small : {k : ℕ} → length a ≤ k → length b ≤ k → n * size ≤ k
   outline-small {k} f g = go second outline-fits
     where
-      go : (t : Bool) → n * size ≤ length (pick t b a) → n * size ≤ k
+      go : (t : Bool) → n * size ≤ length (cond t b a) → n * size ≤ k
       go true h = omega arith
       go false h = omega arith

@@ -1,10 +1,9 @@
 -- What functions below the gatehouse ask of and promise each other; no contract of a public entry speaks of these.
 use mathlib.Core.Path.{_≡_}
-use mathlib.Core.Bool.{Bool, true, false, Bool·beq}
+use mathlib.Core.Bool.{Bool, true, false, Bool·beq, cond}
 use mathlib.Core.List.{List, [], _∷_}
 use Prim.Native.Nat.{ℕ, _≤_, _+_, _*_}
 use lib.ListN.{length, take, set}
-use Rattle.places.specs.Loops.{pick}
 use Rattle.flat.specs.Points.{Point}
 use Rattle.work_lists.specs.declared.Step.{Step}
 use Rattle.work_lists.specs.declared.Step.the-variants.{Kept, Gone, Full, Made}
@@ -27,9 +26,9 @@ pub data Shows (room : ℕ) : Change → Step → List Point → Type 0 where
 -- and its own list stays
 pub record Moved {E : Type 0} (room : ℕ) (change : E → List Point → Change) (e : E) (n : ℕ) (second : Bool)
     (a b : List Point) (r : Step) (a′ b′ : List Point) : Type 0 where
-  pub shows : Shows room (change e (take n (pick second b a))) r (pick second a′ b′)
-  pub same : pick second b′ a′ ≡ pick second b a
-  pub long : length (pick second a′ b′) ≡ length (pick second a b)
+  pub shows : Shows room (change e (take n (cond second b a))) r (cond second a′ b′)
+  pub same : cond second b′ a′ ≡ cond second b a
+  pub long : length (cond second a′ b′) ≡ length (cond second a b)
 
 -- ---- how a list is filled
 -- elements laid down from place k on, as far as there are places
@@ -51,13 +50,13 @@ inSecond (outline second ps) = second
 -- r answers an outcome, and its points stand at the front of their list
 pub record Ended (o : Outcome) (r : Left) (first second : List Point) : Type 0 where
   pub answer : r ≡ answerOf o
-  pub stands : take (length (outlineOf o)) (pick (inSecond o) second first) ≡ outlineOf o
+  pub stands : take (length (outlineOf o)) (cond (inSecond o) second first) ≡ outlineOf o
 
 -- ---- the lists cleared
 -- how many numbers of a list an answer shows, at `size` numbers a point: `which` is false for the first list, true for the second
 abbrev pub shownNumbers : Left → ℕ → Bool → ℕ
 shownNumbers Nothing size which = 0
-shownNumbers (Outline n second) size which = pick (Bool·beq second which) (n * size) 0
+shownNumbers (Outline n second) size which = cond (Bool·beq second which) (n * size) 0
 shownNumbers NoRoom size which = 0
 
 -- r answers an outcome, and both lists show it, +0 in every other number

@@ -1,11 +1,10 @@
 -- Work lists: clipping goes from one to the other and back, and shows what is left in the one where it ended.
 use Prim.Native.Nat.{ℕ, _+_, _-_}
-use mathlib.Core.Bool.{Bool, true, false, not, Bool·beq}
+use mathlib.Core.Bool.{Bool, true, false, not, Bool·beq, cond}
 use mathlib.Core.List.{List, [], _∷_, _++_}
 use lib.ListN.{length, replicate}
 use lib.Dec.{ltb}
 use lib.Ieee.{Float}
-use Rattle.places.specs.Loops.{pick}
 use Rattle.places.specs.Stored.{joined}
 use Rattle.floats.specs.F64.{zero64}
 use Rattle.flat.specs.Points.{Point}
@@ -41,11 +40,11 @@ runOf change (e ∷ es) (outline second ps) = runOf change es (leftBy (change e 
 unfoldable pub clippedOf : {E : Type 0} → ℕ → (E → List Point → Change) → List E → List Point → Outcome
 clippedOf room change es ps =
     let left = runOf change es (outline false ps) in
-    pick (ltb room (length ps)) noRoom left
+    cond (ltb room (length ps)) noRoom left
 
 -- the smaller of two numbers: how many points the shorter list holds
 unfoldable pub shorterOf : ℕ → ℕ → ℕ
-shorterOf a b = pick (ltb b a) b a
+shorterOf a b = cond (ltb b a) b a
 
 -- the points of the outcome, none where nothing is left
 abbrev pub outlineOf : Outcome → List Point

@@ -1,11 +1,10 @@
 // Work lists: the answer of a clipping, the stretch that shows it, and +0 everywhere else.
 ghost use mathlib.Core.Path.{_≡_};
-ghost use mathlib.Core.Bool.{true, false};
+ghost use mathlib.Core.Bool.{true, false, cond};
 ghost use mathlib.Core.List.{_++_};
 ghost use Prim.Native.Nat.{_-_, _≤_};
 ghost use lib.ListN.{length, take, replicate};
 ghost use Rattle.places.specs.Lent.{old, new};
-ghost use Rattle.places.specs.Loops.{pick};
 ghost use Rattle.floats.specs.F64.{zero64};
 ghost use Rattle.work_lists.specs.WorkLists.{shorterOf};
 ghost use Rattle.work_lists.specs.Steps.{shownNumbers};
@@ -42,8 +41,8 @@ pub fn shorter(a: usize, b: usize) -> usize
 // The filled stretch of the list where an outline ended, n numbers long.
 // Ruled out: the stretch of the other list; the whole list.
 pub fn shown<'a>(first: &'a [f64], second: &'a [f64], n: usize, in_second: bool) -> &'a [f64]
-    requires { ⌜ n ≤ length (pick in_second (now second) (now first)) ⌝ }
-    ensures { λ r. ⌜ now r ≡ take n (pick in_second (old second) (old first)) ⌝ }
+    requires { ⌜ n ≤ length (cond in_second (now second) (now first)) ⌝ }
+    ensures { λ r. ⌜ now r ≡ take n (cond in_second (old second) (old first)) ⌝ }
 {
     if in_second {
         &second[0..n]
@@ -69,9 +68,9 @@ pub fn wipe(s: &mut [f64], from: usize)
 // +0 in every number of both lists, save the first n of the one that shows an outline.
 // Ruled out: the other list left as it was; +0 only as far as the outline was written.
 pub fn settle(first: &mut [f64], second: &mut [f64], n: usize, in_second: bool)
-    requires { ⌜ n ≤ length (pick in_second (now second) (now first)) ⌝ }
-    ensures { λ _. ⌜ new first ≡ take (pick in_second 0 n) (old first) ++ replicate (length (old first) - pick in_second 0 n) zero64 ⌝ }
-    ensures { λ _. ⌜ new second ≡ take (pick in_second n 0) (old second) ++ replicate (length (old second) - pick in_second n 0) zero64 ⌝ }
+    requires { ⌜ n ≤ length (cond in_second (now second) (now first)) ⌝ }
+    ensures { λ _. ⌜ new first ≡ take (cond in_second 0 n) (old first) ++ replicate (length (old first) - cond in_second 0 n) zero64 ⌝ }
+    ensures { λ _. ⌜ new second ≡ take (cond in_second n 0) (old second) ++ replicate (length (old second) - cond in_second n 0) zero64 ⌝ }
 {
     if in_second {
         wipe(first, 0);

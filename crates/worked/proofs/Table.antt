@@ -4,7 +4,6 @@ use Rattle.cut.proofs.Computed as Cut
 use Rattle.inside.proofs.Computed as Inside
 use Rattle.clip_step.proofs.Computed as Trim
 use Rattle.places.specs.Loops.{foldList, countOf}
-use Rattle.places.specs.Ring.{foldPairs}
 use Rattle.floats.specs.Pick.{magnitudeOf, largestOf}
 use Rattle.floats.specs.Root.{rootOf}
 use Rattle.flat.specs.Flat.{areaSide, summedAreaOf, signedAreaOf}
@@ -20,7 +19,7 @@ use Rattle.worked.specs.Table.{given, stated, Claim, beside}
 
 -- every definition on the way to an answer: 'unfolding computed' opens them all
 unfoldable pub computed : Unit {0}
-unfolding Cut.computed Inside.computed Trim.computed lt foldPairs foldList countOf rootOf magnitudeOf largestOf areaSide summedAreaOf
+unfolding Cut.computed Inside.computed Trim.computed lt foldList countOf rootOf magnitudeOf largestOf areaSide summedAreaOf
     signedAreaOf runOf clippedOf squareOf dist3Of largestCoordinate doubledWithin spacedFrom spacedOf openedOf withoutDoubled cutChange
     planeChange clipFaceOf edgeChange clipConvexOf intersectionAreaOf
 computed = tt

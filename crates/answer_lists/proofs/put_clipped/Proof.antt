@@ -11,8 +11,8 @@ returns c =
 returns-2 : tie.Need-returns-2
 returns-2 c =
     let answer = c .before .before .before .before .before .before .before .a .given .1 in
-    let bit = c .before .before .before .before .before .one-if .ensures in
-    rw answer (rw bit at (c .before .before .put-counts2 .ensures))
+    let one = c .before .before .before .before .before .one-if .ensures .0 in
+    rw answer (rw one at (c .before .before .put-counts2 .ensures))
 
 returns-3 : tie.Need-returns-3
 returns-3 c = rw (c .before .a2 .given .1)

@@ -1,7 +1,7 @@
 -- `answer_lists::put_survey` meets its contract: both lists are asked for room before either is written to.
 use mathlib.Core.List.{[], _∷_}
 use native.Mathlib.Omega.{arith}
-use Rattle.geometry.specs.Listed.{one}
+use Rattle.places.specs.Loops.{oneIf}
 use Rattle.answer_lists.proofs.Writing.{both-first, both-second, both-put, set-first}
 use borrow.Author.Needs.{needs}
 use Rattle.answer_lists.proofs.put_survey.Statement.{statement}
@@ -11,7 +11,7 @@ returns : tie.Need-returns
 returns c =
     let start : tie.Start = search in
     let s = start .args .s in
-    both-first (s .volume ∷ []) (s .triangles ∷ one (s .closed) ∷ s .short ∷ s .contained ∷ []) (start .args .volume .now)
+    both-first (s .volume ∷ []) (s .triangles ∷ oneIf (s .closed) ∷ s .short ∷ s .contained ∷ []) (start .args .volume .now)
     (start .args .counts .now)
     (c .if1 .taken)
 
@@ -19,24 +19,24 @@ returns-2 : tie.Need-returns-2
 returns-2 c =
     let start : tie.Start = search in
     let done : tie.After-put-counts = search in
-    let bit = done .before .before .before .one-if .ensures in
+    let one = done .before .before .before .one-if .ensures .0 in
     let room = done .before .before .before .before .if1 .left in
     let s = start .args .s in
-    both-second (s .volume ∷ []) (s .triangles ∷ one (s .closed) ∷ s .short ∷ s .contained ∷ []) (start .args .volume .now)
+    both-second (s .volume ∷ []) (s .triangles ∷ oneIf (s .closed) ∷ s .short ∷ s .contained ∷ []) (start .args .volume .now)
     (start .args .counts .now)
-    (omega (arith, room)) (rw bit at (done .put-counts .ensures)) (c .if2 .taken)
+    (omega (arith, room)) (rw one at (done .put-counts .ensures)) (c .if2 .taken)
 
 returns-3 : tie.Need-returns-3
 returns-3 c =
     let start : tie.Start = search in
     let done : tie.After-put-counts = search in
-    let bit = done .before .before .before .one-if .ensures in
+    let one = done .before .before .before .one-if .ensures .0 in
     let room = done .before .before .before .before .if1 .left in
     let zero : tie.Else2 = search in
     let s = start .args .s in
-    both-put (s .volume ∷ []) (s .triangles ∷ one (s .closed) ∷ s .short ∷ s .contained ∷ []) (start .args .volume .now)
+    both-put (s .volume ∷ []) (s .triangles ∷ oneIf (s .closed) ∷ s .short ∷ s .contained ∷ []) (start .args .volume .now)
     (start .args .counts .now)
-    (omega (arith, room)) (rw bit at (done .put-counts .ensures)) (zero .if2 .left)
+    (omega (arith, room)) (rw one at (done .put-counts .ensures)) (zero .if2 .left)
     (set-first _ (start .args .volume .now) (omega (arith, room)))
 
 pub put-survey-spec : {M : Type 1} → statement M

@@ -6,8 +6,8 @@ use Rattle.answer_lists.proofs.put_truth.Tie as tie
 returns : tie.Need-returns
 returns c =
     let answer = c .before .before .before .before .before .before .before .a .given .1 in
-    let bit = c .before .before .before .before .before .one-if .ensures in
-    rw answer (rw bit at (c .before .before .put-counts .ensures))
+    let one = c .before .before .before .before .before .one-if .ensures .0 in
+    rw answer (rw one at (c .before .before .put-counts .ensures))
 
 returns-2 : tie.Need-returns-2
 returns-2 c = rw (c .before .a2 .given .1)

@@ -1,10 +1,11 @@
 -- `clip::advance` meets its contract: its four returns are the four cases of `planeChange`, told apart by how many points of the outline
 -- were counted beyond the plane; only the last, the cut, writes to a list.
+use mathlib.Core.Bool.{cond}
 use Rattle.clip.proofs.Cuts.{stretch-fits, shown-is, none-few, none-out, all-out, some-out}
 use mathlib.Core.Path.{_≡_}
 use native.Mathlib.Omega.{arith}
 use lib.ListN.{take}
-use Rattle.places.specs.Loops.{pick, countOf}
+use Rattle.places.specs.Loops.{countOf}
 use Rattle.flat.specs.Points.{verticesOf}
 use Rattle.clip.specs.Clip.{beyond}
 use Rattle.places.proofs.Stored.{length-threes}
@@ -31,7 +32,7 @@ shown-requires c κs =
 -- what is shown of the list is the outline, so the points were counted in it
 counted : (c : tie.After-count-out) → let start : tie.Start = search in
     c .count-out .result ≡ countOf (beyond (start .args .plane) (start .args .eps))
-    (take (start .args .n) (pick (start .args .in-second) (verticesOf (start .args .second .now)) (verticesOf (start .args .first .now))))
+    (take (start .args .n) (cond (start .args .in-second) (verticesOf (start .args .second .now)) (verticesOf (start .args .first .now))))
 counted c =
     let start : tie.Start = search in
     let args = start .args in

@@ -6,11 +6,12 @@ use borrow.Author.Needs.{needs}
 use lib.Dec.{eqb}
 use lib.ListN.{length, getD}
 use Rattle.places.specs.Stored.{joined}
+use Rattle.places.proofs.Loops.{one-at-most}
 use Rattle.exact.specs.Facing.{reversedBy, howMany}
 use Rattle.cell.specs.Faces.{facesOf}
 use Rattle.cell.proofs.Faces.{Step}
 use Rattle.facing.specs.Steps.{codeChoice}
-use Rattle.facing.proofs.Reversing.{once, Reversing, reverse-start, reverse-step, reverse-next, reverse-end}
+use Rattle.facing.proofs.Reversing.{Reversing, reverse-start, reverse-step, reverse-next, reverse-end}
 use Rattle.facing.proofs.reverse_faces.Statement.{statement}
 use Rattle.facing.proofs.reverse_faces.Tie as tie
 
@@ -61,7 +62,7 @@ add-count c =
       loop .inv .1 .few,
       loop .inv .1 .within,
       reverse-by-code .ensures .1,
-      once (eqb (getD (start .args .code .now) (loop .f) 0) 2),
+      one-at-most (eqb (getD (start .args .code .now) (loop .f) 0) 2),
       start .pre .1 .1,
     )
 

@@ -1,12 +1,11 @@
 -- `geometry::triangles` meets its contract: what the check lets through is a face of the cell, the room is asked for that face, and what
 -- it lets through is cut.
 use mathlib.Core.Path.{_≡_, refl, sym, _∙_}
-use mathlib.Core.Bool.{Bool, true, false}
+use mathlib.Core.Bool.{Bool, true, false, cond}
 use mathlib.Core.List.{List, []}
 use Prim.Native.Nat.{ℕ}
 use native.Mathlib.Omega.{arith}
 use lib.ListN.{length, getD}
-use Rattle.places.specs.Loops.{pick}
 use Rattle.cell.specs.Faces.{facesOf}
 use Rattle.refusals.proofs.Refusals.{AskedFace, asked-face, first-decides, room-decides, fits}
 use Rattle.refusals.specs.Refusals.{roomRefused, trianglesRefusal}
@@ -41,7 +40,7 @@ face-by-number-requires c κs = let at : tie.Else1 = search in (known at .ordere
 -- what the whole check answers past the first, by what the room says
 decides : (c : tie.Else1) (b : Bool) → let s : tie.Start = search in
     b ≡ roomRefused (getD (facesOf (s .args .corners .now) (s .args .ends .now)) (s .args .face) []) (length (s .args .out .now))
-    → pick b 6 0 ≡ trianglesRefusal (s .args .coords .now) (s .args .corners .now) (s .args .ends .now) (s .args .face)
+    → cond b 6 0 ≡ trianglesRefusal (s .args .coords .now) (s .args .corners .now) (s .args .ends .now) (s .args .face)
     (length (s .args .out .now))
 decides c b =
     let start : tie.Start = search in

@@ -13,7 +13,7 @@ use Rattle.places.proofs.reverse_corners.Tie as tie
 
 abbrev Inv-loop : tie.InvT-loop
 Inv-loop face₀ n half i₀ face i =
-    (n ≡ length face₀) × (half ≡ n / 2) × (length face ≡ length face₀) × Folding (mirror 0 n) (n / 2) (reverse face₀) i face
+    (length face ≡ length face₀) × Folding (mirror 0 n) half (reverse face₀) i face
 
 abbrev μ-loop : tie.MeasureT-loop
 μ-loop face₀ n half i₀ face i = half - i
@@ -21,7 +21,7 @@ abbrev μ-loop : tie.MeasureT-loop
 loop-holds : tie.Need-loop-holds Inv-loop μ-loop
 loop-holds c =
     let start : tie.Start Inv-loop μ-loop = search in
-    (refl, refl, refl, mirror-start 0 _ (start .args .face .now) refl)
+    (refl, mirror-start 0 _ (start .args .face .now) refl)
 
 swap-corners-requires : tie.Need-swap-corners-requires Inv-loop μ-loop
 swap-corners-requires c κs = (omega arith, omega arith)
@@ -31,10 +31,10 @@ loop-again c =
     let at : tie.At-loop Inv-loop μ-loop = search in
     let inv = at .loop .inv in
     let swapped : tie.After-swap-corners Inv-loop μ-loop = search in
-    (inv .0, inv .1, swapped .swap-corners .kept .0 ∙ inv .2, mirror-next 0 _ (inv .3) (omega arith) (cc))
+    (swapped .swap-corners .kept .0 ∙ inv .0, mirror-next 0 _ (inv .1) (omega arith) (cc))
 
 returns : tie.Need-returns Inv-loop μ-loop
-returns c = fold-end (c .before .loop .inv .3) (omega arith)
+returns c = fold-end (c .before .loop .inv .1) (omega arith)
 
 pub reverse-corners-spec : {M : Type 1} → statement M
 reverse-corners-spec =

@@ -16,10 +16,10 @@ returns-2 c =
     let at : tie.Else1 = search in
     let corners : tie.After-eight = search in
     let inside : tie.After-hex-contains = search in
-    let bit : tie.After-one-if = search in
+    let one : tie.After-one-if = search in
     let put : tie.After-put-counts = search in
     shape-passed 24 (start .args .p .now) _ _ (start .args .out .now) (at .if1 .left)
-    (rw (corners .eight .ensures) at (rw (inside .hex-contains .ensures) at (rw (bit .one-if .ensures) at (put .put-counts .ensures))))
+    (rw (corners .eight .ensures) at (rw (inside .hex-contains .ensures) at (rw (one .one-if .ensures .0) at (put .put-counts .ensures))))
 
 pub wegrusamt-hex-contains-spec : {M : Type 1} → statement M
 wegrusamt-hex-contains-spec =

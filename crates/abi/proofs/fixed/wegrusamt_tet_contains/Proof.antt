@@ -16,10 +16,10 @@ returns-2 c =
     let at : tie.Else1 = search in
     let corners : tie.After-four = search in
     let inside : tie.After-tet-contains = search in
-    let bit : tie.After-one-if = search in
+    let one : tie.After-one-if = search in
     let put : tie.After-put-counts = search in
     shape-passed 12 (start .args .p .now) _ _ (start .args .out .now) (at .if1 .left)
-    (rw (corners .four .ensures) at (rw (inside .tet-contains .ensures) at (rw (bit .one-if .ensures) at (put .put-counts .ensures))))
+    (rw (corners .four .ensures) at (rw (inside .tet-contains .ensures) at (rw (one .one-if .ensures .0) at (put .put-counts .ensures))))
 
 pub wegrusamt-tet-contains-spec : {M : Type 1} → statement M
 wegrusamt-tet-contains-spec =

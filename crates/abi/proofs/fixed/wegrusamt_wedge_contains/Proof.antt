@@ -16,10 +16,10 @@ returns-2 c =
     let at : tie.Else1 = search in
     let corners : tie.After-six = search in
     let inside : tie.After-wedge-contains = search in
-    let bit : tie.After-one-if = search in
+    let one : tie.After-one-if = search in
     let put : tie.After-put-counts = search in
     shape-passed 18 (start .args .p .now) _ _ (start .args .out .now) (at .if1 .left)
-    (rw (corners .six .ensures) at (rw (inside .wedge-contains .ensures) at (rw (bit .one-if .ensures) at (put .put-counts .ensures))))
+    (rw (corners .six .ensures) at (rw (inside .wedge-contains .ensures) at (rw (one .one-if .ensures .0) at (put .put-counts .ensures))))
 
 pub wegrusamt-wedge-contains-spec : {M : Type 1} → statement M
 wegrusamt-wedge-contains-spec =

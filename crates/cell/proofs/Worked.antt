@@ -1,4 +1,4 @@
--- Document 01's rows on the limits, worked out from the definitions: 2 ^ 40 passes and the next f64 refuses, 256 vertices pass and 257
+-- The rows of SCOPE 16 on the limits, worked out from the definitions: 2 ^ 40 passes and the next f64 refuses, 256 vertices pass and 257
 -- refuse, 0 faces need 0 corners.
 use mathlib.Core.Path.{_≡_, refl}
 use mathlib.Core.Bool.{true, false}

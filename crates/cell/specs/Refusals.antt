@@ -1,4 +1,4 @@
--- What is refused, as document 01's table has it: a number and what it is refused for, and the first row that applies decides.
+-- What is refused, as the table of SCOPE 3 has it: a number and what it is refused for, and the first row that applies decides.
 use mathlib.Core.Bool.{Bool, not, _&&_, _||_, cond}
 use mathlib.Core.List.{List, [], _∷_}
 use Prim.Native.Nat.{ℕ, _%_}

@@ -1,4 +1,4 @@
--- The unit cube of document 01 with HEX8_FACES for its faces, and two cells made of it that are not closed.
+-- The unit cube of SCOPE 15 with HEX8_FACES for its faces, and two cells made of it that are not closed.
 use mathlib.Core.List.{List, [], _∷_, _++_}
 use Prim.Native.Nat.{ℕ}
 use lib.Ieee.{Float}

@@ -1,4 +1,4 @@
--- No turn of a cut is a NaN. Document 01 takes a corner where turn × direction is at least 0, and the Rust's first pass skips one where it
+-- No turn of a cut is a NaN. SCOPE 7 takes a corner where turn × direction is at least 0, and the Rust's first pass skips one where it
 -- is below 0: these differ on a NaN only. Of coordinates that pass refusal 2 none arises, and so both rules cut every face alike.
 use mathlib.Core.Path.{_≡_}
 use mathlib.Core.Bool.{Bool, false, not, cond}
@@ -45,7 +45,7 @@ rustEarAt ps dir k =
     let blocked = blockedOf ps (before [] k ps) (getD ps k []) (after [] k ps) dir in
     cond (lt (turnAt ps dir k) zero64) false (not blocked)
 
--- the Rust's choice: where the first pass takes none, its second pass asks for at least 0, as document 01 does
+-- the Rust's choice: where the first pass takes none, its second pass asks for at least 0, as SCOPE 7 does
 unfoldable pub rustFindCorner : List Point → Float → Found
 rustFindCorner ps dir =
     let turn = findTurn ps dir in
@@ -60,7 +60,7 @@ rustCutOf vs face =
     let cut = cutRing (rustNextCornerOf vs face) (length face - 3) face in
     cond (ltb (length face) 3) nothing cut
 
--- the Rust's rule and document 01's cut a face alike
+-- the Rust's rule and that of SCOPE 7 cut a face alike
 abbrev pub SameCut : List Point → List ℕ → Type 0
 SameCut vs face = rustCutOf vs face ≡ cutOf vs face
 

@@ -1,4 +1,4 @@
--- Roots worked out from the definition: document 01's row, the root of the least positive f64, and its rules for -0,
+-- Roots worked out from the definition: the row of SCOPE 16, the root of the least positive f64, and the rules of SCOPE 5 for -0,
 -- a negative number and +infinity.
 use mathlib.Core.Path.{_≡_, refl}
 use lib.IntN.{negsuc}

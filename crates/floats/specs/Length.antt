@@ -1,4 +1,4 @@
--- The length of a pair of f64: what document 01 puts in place of hypot.
+-- The length of a pair of f64: what SCOPE 1 puts in place of hypot.
 use lib.Ieee.{Float, binary64}
 use Rattle.floats.specs.F64.{_+f_, _*f_}
 use Rattle.floats.specs.Root.{rootOf}

@@ -1,4 +1,4 @@
--- Magnitude, min and max of floats, as document 01 has them.
+-- Magnitude, min and max of floats, as SCOPE 5 has them.
 use mathlib.Core.Bool.{false, cond}
 use lib.Ieee.{Float, nan, inf, fin, isNan, lt}
 

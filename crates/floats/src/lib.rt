@@ -84,7 +84,7 @@ pub fn root(x: f64) -> f64
     f64::from_bits(square::root_pattern(b))
 }
 
-// hypot(x, y), as document 01 has it.
+// hypot(x, y), as SCOPE 1 has it.
 // Rules out: squares and sum fused into one rounding; a length scaled beforehand, so that large squares do not overflow.
 pub fn length(x: f64, y: f64) -> f64
     ensures { λ r. ⌜ r ≡ lengthOf x y ⌝ }

@@ -1,5 +1,5 @@
--- An answer in lists, as it crosses a boundary that only numbers and lent lists pass: for each answer of an entry the paper's number
--- and its values.
+-- An answer in lists, as it crosses a boundary that only numbers and lent lists pass: for each answer of an entry its number
+-- in SCOPE 3 and its values.
 use Prim.Native.Nat.{ℕ}
 use mathlib.Core.Path.{_≡_}
 use mathlib.Core.Bool.{Bool, true, false, _||_, cond}
@@ -28,7 +28,7 @@ use Rattle.geometry.specs.declared.Clipped.{Clipped}
 use Rattle.geometry.specs.Cells.{trianglesAnswer}
 use Rattle.geometry.specs.TurnFaces.{canTurnAnswer, TurnFacesGives}
 
--- refused by the paper's number, or values: numbers for one lent list, counts for another
+-- refused by a number of SCOPE 3, or values: numbers for one lent list, counts for another
 pub data Listed : Type 0 where
   refused : ℕ → Listed
   values : List Float → List ℕ → Listed

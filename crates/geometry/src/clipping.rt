@@ -5,7 +5,7 @@ ghost use Rattle.places.specs.Lent.{old, new};
 ghost use Rattle.geometry.specs.Clipping.{clippedAnswer, numberOf, clipFaceAnswer, clipConvexAnswer, overlapAreaAnswer};
 ghost use Rattle.geometry.specs.Clipping.{overlapAnswer};
 
-// What is left as an entry answers it: the paper's number for 'no room' is 6.
+// What is left as an entry answers it: the number of 'no room' is 6 (SCOPE 3).
 fn clipped(left: work_lists::Left) -> crate::Clipped
     ensures { λ r. ⌜ r ≡ clippedAnswer left ⌝ }
 {

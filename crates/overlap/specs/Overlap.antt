@@ -73,7 +73,7 @@ unfoldable pub patchesOf : Bool → ℕ → Measures → List Point → List (Li
 patchesOf second room m vs faces planes = map (λ face. patchOf second room m planes (cornersOf vs face)) faces
 
 -- the contributions added in order to the sum v; where a face had no room there is no sum.
--- An outline of 0 points reads as nothing left, as document 01 has it; none occurs here, for no face has 0 corners (refusal 5),
+-- An outline of 0 points reads as nothing left, as SCOPE 11 has it; none occurs here, for no face has 0 corners (refusal 5),
 -- and a plane that cuts leaves at least 3 points (`patch-points` of proofs/Patches.antt)
 unfoldable pub addedTo : Point → Float → List Outcome → Sum
 addedTo ref v [] = Sum.Is v

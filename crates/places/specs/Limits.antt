@@ -1,4 +1,4 @@
--- The largest sizes that document 01 lets pass: in its table of refusals, of `point_in_phed`, and of the cell report.
+-- The largest sizes that pass: by the table of SCOPE 3, of `point_in_phed` (SCOPE 3), and of the cell report (SCOPE 15).
 use Prim.Native.Nat.{ℕ}
 
 -- vertices of a cell, or points of a list of points of space

@@ -1,4 +1,4 @@
-// The largest sizes that are taken, as document 01's table of refusals has them: each is named here, and in specs/Limits.antt.
+// The largest sizes that are taken, as the table of SCOPE 3 has them: each is named here, and in specs/Limits.antt.
 
 // Vertices of a cell, or points of a list of points of space.
 pub const MOST_VERTICES: usize = 256;

@@ -46,7 +46,7 @@ fn unit_plane(n: [f64; 3], d: f64) -> Plane
     }
 }
 
-// The plane of a face. Where the norm is 0 a part of the normal is NaN or infinite, as document 01 says.
+// The plane of a face. Where the norm is 0 a part of the normal is NaN or infinite, as SCOPE 11 says.
 // Ruled out: each part divided by the norm, which rounds once instead of twice; an offset taken at the last corner.
 pub fn plane_of_face(coords: &[f64], face: &[u32]) -> Plane
     requires { ⌜ Inside (verticesOf (now coords)) (now face) ⌝ }

@@ -1,4 +1,4 @@
-// Why the public entries refuse, 0 where they do not: each check in document 01's order.
+// Why the public entries refuse, 0 where they do not: each check in the order of SCOPE 3.
 ghost use mathlib.Core.Path.{_≡_};
 ghost use mathlib.Core.List.{[], _∷_};
 ghost use Prim.Native.Nat.{_-_, _<_};

@@ -60,7 +60,7 @@ pub wedge-holds : wedgeContainsOf (point quarter quarter half) wedge ≡ true
 unfolding computed
 wedge-holds = refl
 
--- ---- the cube of document 01
+-- ---- the cube of SCOPE 15
 abbrev pub cube : List Point
 cube =
     point zero64 zero64 zero64 ∷ point one64 zero64 zero64 ∷ point one64 one64 zero64 ∷ point zero64 one64 zero64

@@ -52,7 +52,7 @@ outlineOf nothing = []
 outlineOf noRoom = []
 outlineOf (outline second ps) = ps
 
--- ---- the paper's answer: an outline of 0 points reads as nothing left
+-- ---- the answer of SCOPE 11: an outline of 0 points reads as nothing left
 abbrev pub answerOf : Outcome → Left
 answerOf nothing = Nothing
 answerOf noRoom = NoRoom

@@ -32,7 +32,7 @@ pub worked-beside : given beside ≡ stated beside
 unfolding computed
 worked-beside = refl
 
--- document 01's table does not refuse all: the unit cube passes, and with a query value above 2 ^ 40 it is refused 2
+-- the table of SCOPE 3 does not refuse all: the unit cube passes, and with a query value above 2 ^ 40 it is refused 2
 pub cube-passes : refusalOf cube hexCorners hexEnds [] [] ≡ 0
 unfolding computed refusalOf firstRow sizeRefused pointsRefused numberRefused outOfRange endsRefused indexRefused
 cube-passes = refl

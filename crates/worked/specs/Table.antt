@@ -1,4 +1,4 @@
--- Document 01's 'Worked by hand': the rows marked *, as one table and one claim about the definitions,
+-- SCOPE 16, 'Worked by hand': the rows marked *, as one table and one claim about the definitions,
 -- which proofs/Table.antt proves by computing them.
 use mathlib.Core.Path.{_≡_}
 use mathlib.Core.Bool.{Bool, true, false}
@@ -150,7 +150,7 @@ table =
 abbrev pub Claim : Type 0
 Claim = given table ≡ stated table
 
--- ---- rows beside document 01's: the report's query point, the same points asked of `point_in_phed`,
+-- ---- rows beside those of SCOPE 16: the report's query point, the same points asked of `point_in_phed`,
 -- and further crossings that are exact in f64
 -- 1/4, 3/8, 5/2, −2, 5, 6 and 8
 abbrev quarter : Float

@@ -97,7 +97,7 @@ row coords corners ends answer after = record { coords = coords; corners = corne
 
 abbrev pub table : List Row
 table =
-    -- the unit cube of document 01 with the face 0 stored backward: that face keeps its direction, so the other five are reversed
+    -- the unit cube of SCOPE 15 with the face 0 stored backward: that face keeps its direction, so the other five are reversed
     row cube backwardCorners hexEnds (Count.Is 5) insideOut
     -- with one of the faces 1 to 5 stored backward: that face is reversed
     ∷ row cube backward1 hexEnds (Count.Is 1) hexCorners

@@ -177,10 +177,10 @@ class Case:
         self.lines.append(f'    {entry}{shown} = {answer}' + ''.join(f' | {kind} {plain(kind, ws)}' for kind, ws in lists.items() if ws))
 
     def said(self, code, **said):
-        """Stops where an answer is not the one that the documents state: the code, or the front of a list."""
+        """Stops where an answer is not the one that docs/SCOPE.md states: the code, or the front of a list."""
         for words, lists in self.questions:
             if words[CODE] != code or any(lists[kind][:len(ws)] != ws for kind, ws in said.items()):
-                raise SystemExit(f'{self.name} is not as the documents have it: {words}')
+                raise SystemExit(f'{self.name} is not as docs/SCOPE.md has it: {words}')
 
     def stored(self):
         coords, corners, ends = self.cell

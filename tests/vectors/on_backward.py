@@ -1,4 +1,4 @@
-"""Questions on backward faces (document 02, item 3). The answers are worked by hand here, and sides.py must give the same."""
+"""Questions on backward faces (SCOPE 14). The answers are worked by hand here, and sides.py must give the same."""
 from cells import CUBE, HEX8, TETRA, box, cell_of, hull, prism, shifted
 from on_cells import MANY, CellCase
 

@@ -144,7 +144,7 @@ class SurveyCase(Case):
         self.put('survey_of_queries', [len(coords)], why, *got, f' of the first {len(coords)} numbers with the rest')
 
 
-# The rows of document 01's 'Worked by hand' on cells. The Rust's answer must be the paper's.
+# The rows of SCOPE 16, 'Worked by hand', on cells. The Rust's answer must be the one stated there.
 
 MANY = [(k % 7, k % 11, k % 13) for k in range(257)]
 OVER = math.nextafter(LIMIT, math.inf)
@@ -186,7 +186,7 @@ def worked(oracle):
         c.said(why)
     stored_otherwise = cell_of(CUBE, [[1, 2, 3, 0], *HEX8[1:]])
     for name, cell, is_closed, volume in (('report_line', cube, 1, 0x3FF0000000000000), ('report_line_not_closed', stored_otherwise, 0, 0x3FE5555555555555)):
-        c = case(name, cell, "as document 01's cell report prints it")
+        c = case(name, cell, 'as the cell report of SCOPE 15 prints it')
         c.survey((0.5, 0.5, 0.5))
         c.said(0, numbers=[volume], counts=[12, is_closed, 0, 1])
     return out

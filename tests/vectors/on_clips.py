@@ -100,7 +100,7 @@ def square(low):
 
 
 def worked(oracle):
-    """The rows of document 01's 'Worked by hand' on clipping and overlaps."""
+    """The rows of SCOPE 16, 'Worked by hand', on clipping and overlaps."""
     out = []
     c = made(out, FaceCase(oracle, 'square_by_x_1', SQUARE, X_TO_1, '(0,0), (1,0), (1,2), (0,2)'))
     c.clip(0, lengths=(12, 12))
@@ -111,7 +111,7 @@ def worked(oracle):
         c = made(out, OutlineCase(oracle, name, square(0), clip, f'area {area:g}'))
         c.ask()
         if c.questions[1][1]['numbers'][0] != bits(area):
-            raise SystemExit(f'{name} is not as document 01 has it')
+            raise SystemExit(f'{name} is not as SCOPE 16 has it')
     for step in ((1, 0, 0), (0, -1, 0), (0, 0, 1)):
         c = made(out, PairCase(oracle, 'cubes_that_share_a_face_' + 'xyz'[[bool(s) for s in step].index(True)], CUBE_CELL, cell_of(shifted(CUBE, step), HEX8), 'overlap 0'))
         c.overlap(room=1)

@@ -43,7 +43,7 @@ class LeafCase(Case):
         self.put('root', [bits(x)], 0, shown=f' {bits(x):016X}', code=bits(math.nan if x < 0.0 else math.sqrt(x)))
 
     def small(self, x, ys):
-        """The leaves on one number and on two, as document 01 has them: of two that tie the first, and the other beside a NaN."""
+        """The leaves on one number and on two, as SCOPE 5 has them: of two that tie the first, and the other beside a NaN."""
         self.put('magnitude', [bits(x)], 0, shown=f' {x!r}', code=bits(abs(x)))
         for entry in ('pattern', 'of_pattern'):
             self.put(entry, [bits(x)], 0, shown=f' {x!r}', code=bits(x))

@@ -1,4 +1,4 @@
-"""What the documents say of sides: closedness, and the turning of backward faces (document 02, item 3). The Rust has neither."""
+"""What SCOPE 8 and SCOPE 14 say of sides: closedness, and the turning of backward faces. The Rust has neither."""
 from collections import Counter
 
 from table import faces, refusal

@@ -1,4 +1,4 @@
-"""Document 01's table of refusals: the number of the first row that applies, 0 for none."""
+"""The table of refusals, SCOPE 3: the number of the first row that applies, 0 for none."""
 
 from asking import MARK
 

@@ -1,4 +1,4 @@
-/* Wegrusamt under C names: cells with flat faces, measured as documents 01 and 02 say, every function proved.
+/* Wegrusamt under C names: cells with flat faces, measured as docs/SCOPE.md says, every function proved.
  *
  * Link with the archive that `rt staticlib abi` builds (target/staticlib/libabi.a); no other library is needed,
  * not even -lm. examples/volume.c is a program that does so.
@@ -12,8 +12,8 @@
  * A cell is three lists: coords, three numbers a vertex; corners, vertex numbers from 0; ends, where each face
  * ends in corners (face k runs from the end before it, 0 for the first, up to its own).
  *
- * Answers. A function that returns uint8_t returns 0, or the number of a refusal, 1 to 6 by document 01, 11 and 12
- * by document 02 (save the two tests of planes, which return yes or no):
+ * Answers. A function that returns uint8_t returns 0, or the number of a refusal by SCOPE 3 (save the two tests of
+ * planes, which return yes or no):
  *   1 size    coordinates or query values not in threes (in pairs in the plane; planes in fours); 0 or over 256
  *             vertices, or points of a list of space; over 256 faces, 2,048 corners, 256 planes, 256 query points
  *             or 512 points of the plane; a work list over 3,072 numbers
@@ -222,7 +222,7 @@ uint8_t wegrusamt_plane_coplanar_opposite(double ax, double ay, double az, doubl
 /* ---- leaves on double: any bits, nothing refused ---- */
 
 /* |x|; the lesser and the larger (the other one where one is NaN, the first on a tie); the correctly rounded
- * square root; the root of the rounded sum of the rounded squares, document 01's hypot; the bits of a double, and
+ * square root; the root of the rounded sum of the rounded squares, the hypot of SCOPE 1; the bits of a double, and
  * the double of bits. */
 double wegrusamt_magnitude(double x);
 double wegrusamt_least(double a, double b);

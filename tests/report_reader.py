@@ -1,4 +1,4 @@
-"""A second reader of the report's records, made from document 01 alone.
+"""A second reader of the report's records, by the rules of SCOPE 15 alone.
 
 `lines(streams)` gives the report of each stream of bytes. What a cell's geometry comes to is asked
 of the Rust: the program `oracle` of rust/oracle (ORACLE names another place), all in one run.

@@ -5,7 +5,7 @@
 //! module sees the private items of its parent, so `reach` can offer them to the outside.
 //!
 //! Two builds are written. `plain` is the text as it is. `ruled` has its calls of `hypot` replaced
-//! by the rule of document 01.
+//! by the rule of SCOPE 1.
 
 use std::path::{Path, PathBuf};
 use std::{env, fs};
@@ -40,7 +40,7 @@ const RULE_USES: &str = "use crate::ruled_length::RuledHypot as _;\n";
 const HYPOT_CALL: &str = ".hypot(";
 const RULED_CALL: &str = ".ruled_hypot(";
 
-/// How many calls of `hypot` document 01 speaks of.
+/// How many calls of `hypot` SCOPE 1 speaks of.
 const HYPOT_CALLS: usize = 2;
 
 /// The text of every file of one build.

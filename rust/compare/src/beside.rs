@@ -1,4 +1,4 @@
-//! The unmodified Rust beside the build with document 01's rule for hypot: how often their planes
+//! The unmodified Rust beside the build with the rule of SCOPE 1 for hypot: how often their planes
 //! and overlaps differ, and by what.
 
 use oracle::{plain, ruled};

@@ -10,7 +10,7 @@ use crate::refusals::{has_bad_ends, of_cell};
 use crate::scale::Scale;
 use crate::shrink::{Input, Shrink, fewer_vertices, in_groups, within};
 
-/// A cell as document 01 lists it.
+/// A cell as SCOPE 2 lists it.
 #[derive(Clone, Debug, PartialEq)]
 pub struct Cell {
     pub coords: Vec<f64>,
@@ -99,7 +99,7 @@ impl Cell {
             .collect()
     }
 
-    /// The plane of a face, by the Rust with document 01's rule for hypot.
+    /// The plane of a face, by the Rust with the rule of SCOPE 1 for hypot.
     pub fn plane(&self, face: &[u32]) -> [f64; 4] {
         oracle::ruled::plane_of_face(self.points(), &as_usize(face))
     }

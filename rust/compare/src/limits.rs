@@ -1,4 +1,4 @@
-//! The limits of document 01.
+//! The limits of SCOPE 3.
 
 pub const MOST_VERTICES: usize = 256;
 pub const MOST_FACES: usize = 256;

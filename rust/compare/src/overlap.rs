@@ -52,7 +52,7 @@ pub fn of_two(
     }
 }
 
-/// The overlap by the Rust with document 01's rule for hypot.
+/// The overlap by the Rust with the rule of SCOPE 1 for hypot.
 pub fn by_the_ruled(cells: &[Cell; 2]) -> f64 {
     let [first, second] = cells.each_ref().map(Cell::for_the_rust);
     oracle::ruled::convex_intersection_volume(first, second)

@@ -1,4 +1,4 @@
-//! Which refusal document 01 gives: the checks 1 to 5 in their order. Where a call has more than one
+//! Which refusal SCOPE 3 gives: the checks 1 to 5 in their order. Where a call has more than one
 //! input, `or_else` puts the checks of one behind those of another.
 
 use crate::cells::Cell;

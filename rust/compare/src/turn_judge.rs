@@ -1,4 +1,5 @@
-//! Turns the backward faces of a cell by document 02's item 3 alone: the second teller of `turn_faces`.
+//! Turns the backward faces of a cell by request 3 (SCOPE 14) alone: the second teller of
+//! `turn_faces`.
 //!
 //! The Rust has no such pass. So every choice of reversals is tried where the faces are few; where they
 //! are many, they are visited side by side. Both ways must agree where both are gone.

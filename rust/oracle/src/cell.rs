@@ -8,7 +8,7 @@ pub enum Shape {
     Unknown,
 }
 
-/// A cell as document 01 lists it: vertices, corners, and where each face ends.
+/// A cell as SCOPE 2 lists it: vertices, corners, and where each face ends.
 ///
 /// Face k is the stretch of `corners` from the previous end (0 for the first) up to `ends[k]`.
 #[derive(Clone, Copy, Debug)]

@@ -1,7 +1,7 @@
 //! The Rust of mefikit, compiled as it stands, to judge the port by.
 //!
 //! Two builds of the same code stand side by side with the same functions in them: [`plain`], the
-//! Rust as it is, and [`ruled`], in which the two calls of `hypot` follow document 01's rule. Each
+//! Rust as it is, and [`ruled`], in which the two calls of `hypot` follow the rule of SCOPE 1. Each
 //! function carries the name of the Rust function that it calls. A single face is a list of
 //! `usize`, which is what the Rust itself takes; a whole cell is a [`Cell`].
 //!
@@ -27,7 +27,7 @@ pub mod plain {
     include!(concat!(env!("OUT_DIR"), "/plain.rs"));
 }
 
-/// The Rust with its two calls of `hypot` replaced by the rule of document 01.
+/// The Rust with its two calls of `hypot` replaced by the rule of SCOPE 1.
 pub mod ruled {
     include!(concat!(env!("OUT_DIR"), "/ruled.rs"));
 }

@@ -2,7 +2,7 @@
 
 /// Gives `f64` a length by rule, in the place of `hypot`, whose precision Rust leaves open.
 pub(crate) trait RuledHypot {
-    /// The root of the rounded sum of the rounded squares, as document 01 has it.
+    /// The root of the rounded sum of the rounded squares, as SCOPE 1 has it.
     fn ruled_hypot(self, other: Self) -> Self;
 }
 

@@ -1,4 +1,4 @@
-//! Document 01's rows 'Worked by hand', answered by both builds of the Rust.
+//! The rows of SCOPE 16, 'Worked by hand', answered by both builds of the Rust.
 
 use oracle::{Cell, plain, ruled};
 

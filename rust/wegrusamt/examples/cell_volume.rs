@@ -1,5 +1,4 @@
-//! Prints the volume of every cell in a file of records, as the cell report reads them (document
-//! 01):
+//! Prints the volume of every cell in a file of records, as the cell report reads them (SCOPE 15):
 //!
 //!     cargo run --example cell_volume -- ../../examples/cube.cell
 //!

@@ -275,7 +275,7 @@ impl<'a> Cell<'a> {
 
     /// The plane of a face. Also refused as [`Refusal::EmptyFace`] where any face has no corners.
     ///
-    /// A face without area has no normal: parts of it are NaN or infinite, as document 01 says.
+    /// A face without area has no normal: parts of it are NaN or infinite, as SCOPE 11 says.
     pub fn plane_of_face(&self, face: usize) -> Result<Plane, Refusal> {
         let mut out = [0.0; 4];
         let number = c::plane_of_face(

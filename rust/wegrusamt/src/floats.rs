@@ -29,7 +29,7 @@ pub fn root(x: f64) -> f64 {
     c::root(x)
 }
 
-/// The root of the rounded sum of the rounded squares, which document 01 puts in the place of
+/// The root of the rounded sum of the rounded squares, which SCOPE 1 puts in the place of
 /// `hypot`. It overflows where a square does.
 pub fn length(x: f64, y: f64) -> f64 {
     c::length(x, y)

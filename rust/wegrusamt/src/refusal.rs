@@ -3,8 +3,8 @@
 use std::error::Error;
 use std::fmt;
 
-/// Why a call is refused: document 01's table, and document 02's refusals of turning. The first of
-/// them that applies is answered, [`Refusal::Room`] after all others.
+/// Why a call is refused, by the table of SCOPE 3. The first row that applies is answered,
+/// [`Refusal::Room`] after all others.
 ///
 /// ```
 /// use wegrusamt::{Cell, Refusal};
@@ -53,7 +53,7 @@ impl Refusal {
         Refusal::Unclosable,
     ];
 
-    /// The refusal's number: 1 to 6 in document 01, 11 and 12 in document 02.
+    /// The refusal's number in the table of SCOPE 3: 1 to 6, 11 and 12.
     pub const fn number(self) -> u8 {
         self as u8
     }

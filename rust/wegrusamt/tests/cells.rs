@@ -1,5 +1,5 @@
-//! Document 01's rows, document 02's turning of backward faces and every refusal, asked through the
-//! crate.
+//! The rows of SCOPE 16, the turning of backward faces (SCOPE 14) and every refusal, asked through
+//! the crate.
 
 use wegrusamt::{Cell, CellBuf, Plane, Refusal, Shape, floats, into_ccw, planar, point_in_phed};
 use wegrusamt::{FACE_END, WORK_NUMBERS, leaves, shapes, space, turn_faces};

@@ -1,5 +1,5 @@
 #!/usr/bin/env python3
-"""Writes each example cell as records (NAME.cell) and as text that says what it is (NAME.txt).
+"""Writes each example, one cell or several, as records (NAME.cell) and as text that says what it is (NAME.txt).
 
 Run it in any folder: the files are written beside this script.
 """
@@ -45,6 +45,15 @@ def prism(outline, height):
 ELL = [(0, 0), (3, 0), (3, 1), (1, 1), (1, 3), (0, 3)]
 FAR = (4_000_000.0, 2_000_000.0, 1_000_000.0)
 
+# a tetrahedron: the ray along +x from its middle meets the side from vertex 2 to vertex 3 exactly
+SLANT = [(0, 0, 0), (0, 0, 2), (0, 1, 0), (1, 0, 1)]
+SLANT_FACES = [[0, 1, 2], [3, 1, 0], [0, 2, 3], [3, 2, 1]]
+STEP = 2.0 ** -10
+
+THIN_AT = (8_588_590.0, 8_529_546.0, 2_969_498.0)
+THIN = [(x + 0.05 * a, y + 0.25 * b, z + 2 * c) for a, b, c in CUBE for x, y, z in [THIN_AT]]
+
+# an example has one cell (vertices, faces, queries), or a list of such
 EXAMPLES = {
     "cube": (
         "The unit cube with the query point (1/2, 1/2, 1/2).",
@@ -68,6 +77,33 @@ EXAMPLES = {
         "The unit cube moved by (4,000,000, 2,000,000, 1,000,000), as cells of a map are.",
         moved(CUBE, FAR), HEX8_FACES, [(4_000_000.5, 2_000_000.5, 1_000_000.5)],
     ),
+    "ray-on-side": (
+        "A tetrahedron four times, first with query points whose ray along +x meets a side exactly (docs/LIMITS.md):\n"
+        "its middle, which is inside and is not counted, and a point outside, which is counted. Then both of them\n"
+        "a step aside, 1/1024 in z: the first is counted, the second is not, which is right.",
+        [
+            (SLANT, SLANT_FACES, [(0.25, 0.25, 0.75)]),
+            (SLANT, SLANT_FACES, [(-3, 0.25, 0.75)]),
+            (SLANT, SLANT_FACES, [(0.25, 0.25, 0.75 + STEP)]),
+            (SLANT, SLANT_FACES, [(-3, 0.25, 0.75 + STEP)]),
+        ],
+    ),
+    "thin-and-far": (
+        "A box of 0.05 x 0.25 x 2 far from the origin, of which one face gives no triangle, so that a sixth of\n"
+        "the volume is missing; and the same box moved by whole numbers, exactly, to the origin (docs/LIMITS.md).",
+        [
+            (THIN, HEX8_FACES, []),
+            (moved(THIN, [-x for x in THIN_AT]), HEX8_FACES, []),
+        ],
+    ),
+    "torn-and-a-vertex": (
+        "The cube without its lid, and the same with one vertex more, (1/2, 1/2, 10), that no face names: an open\n"
+        "cell's volume depends on where all its vertices lie (docs/LIMITS.md).",
+        [
+            (CUBE, HEX8_FACES[:1] + HEX8_FACES[2:], []),
+            (CUBE + [(0.5, 0.5, 10)], HEX8_FACES[:1] + HEX8_FACES[2:], []),
+        ],
+    ),
 }
 
 
@@ -79,13 +115,17 @@ def words(vertices, faces, queries):
 
 
 def main():
-    for name, (says, vertices, faces, queries) in EXAMPLES.items():
-        data = cell(vertices, faces, queries)
+    for name, (says, *given) in EXAMPLES.items():
+        cells = given[0] if len(given) == 1 else [given]
+        data = b"".join(cell(*parts) for parts in cells)
+        texts = ["\n".join(words(*parts)) + "\n" for parts in cells]
+        if len(cells) > 1:
+            texts = [f"cell {k}\n{text}" for k, text in enumerate(texts, 1)]
         with open(os.path.join(HERE, name + ".cell"), "wb") as f:
             f.write(data)
         with open(os.path.join(HERE, name + ".txt"), "w") as f:
-            f.write(f"{says}\n{len(data) // 32} records, 1 cell.\n\n")
-            f.write("\n".join(words(vertices, faces, queries)) + "\n")
+            f.write(f"{says}\n{len(data) // 32} records, {len(cells)} cell{'s' * (len(cells) > 1)}.\n\n")
+            f.write("\n".join(texts))
 
 
 if __name__ == "__main__":

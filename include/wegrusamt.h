@@ -122,8 +122,9 @@ uint8_t wegrusamt_turn_faces(const double *coords, size_t coords_len, uint32_t *
 uint8_t wegrusamt_into_ccw(const double *coords, size_t coords_len, uint32_t *corners, size_t corners_len,
                            const uint32_t *ends, size_t ends_len);
 
-/* The plane of one face. out: the unit normal x, y, z, then the offset; inside is normal . p <= offset. A face of
- * no area has NaN or infinite parts. */
+/* The plane of one face. out: the unit normal x, y, z, then the offset; inside is normal . p <= offset. A face that
+ * has no area by its computed sums (its three Newell sums are all 0) has NaN in all four parts. Where they are not
+ * all 0 but the computed length is, a part of the normal is NaN where its sum is 0 and infinite elsewhere. */
 uint8_t wegrusamt_plane_of_face(const double *coords, size_t coords_len, const uint32_t *corners,
                                 size_t corners_len, const uint32_t *ends, size_t ends_len, uint32_t face,
                                 double *out, size_t out_len);

@@ -117,8 +117,9 @@ pub fn plane_same_side(a: crate::Plane, b: crate::Plane, tol: f64) -> bool
     planes::plane_same_side(taken(a), taken(b), tol)
 }
 
-// Whether two planes are the same with the inside on opposite sides.
-// Ruled out: the difference of the offsets for their sum; planes that only cross taken for opposite ones.
+// Whether two planes are the same with the inside on opposite sides: the normals' product is not at least −1 + 1e-10, so a NaN passes,
+// and the magnitude of the offsets' sum is at most the tolerance.
+// Ruled out: the difference of the offsets for their sum; a NaN normal read as not opposite.
 pub fn plane_coplanar_opposite(a: crate::Plane, b: crate::Plane, tol: f64) -> bool
     ensures { λ r. ⌜ r ≡ planeCoplanarOppositeAnswer a b tol ⌝ }
 {

@@ -1,5 +1,5 @@
 //! The list of docs/DIFFERENCES.md: the smallest input known for each way in which the unmodified
-//! Rust differs from the build with document 01's hypot, and both answers bit for bit. What the
+//! Rust differs from the build with SCOPE 1's hypot, and both answers bit for bit. What the
 //! unmodified one answers rests on the machine's own hypot; here it is that of glibc.
 
 use oracle::{Cell, plain, ruled};

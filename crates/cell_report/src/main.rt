@@ -1,4 +1,5 @@
-// Reads records from standard input and writes the report's lines to standard output.
+// Reads records from standard input and writes the report's lines to standard output. A read or a write that fails is said on standard
+// error, save that a reader who has gone is not told of.
 ghost use Prim.Native.Nat.{_+_, _^_, _≤_, _<_};
 ghost use mathlib.Core.Path.{_≡_};
 ghost use lib.ListN.{length, take, drop};
@@ -16,6 +17,53 @@ struct Came {
     waited: usize,
     bytes: usize,
     failed: bool,
+}
+
+// Whether a call that has just failed can be tried again: a signal interrupted it, or the other end was
+// not ready. There is no call that waits until it is, so another process is let run first.
+fn can_try_again() -> bool {
+    let error = os::errno();
+    if error == libc::EAGAIN {
+        libc::sched_yield();
+        return true;
+    }
+    error == libc::EINTR
+}
+
+// Whether a write that took no byte can be tried again; if not, it is said why, unless the reader has
+// gone.
+fn can_write_again(put: isize) -> bool {
+    if put == 0 {
+        io::write_all(
+            2,
+            b"cell_report: writing standard output: no byte was taken\n",
+        );
+        return false;
+    }
+    if can_try_again() {
+        return true;
+    }
+    if os::errno() != libc::EPIPE {
+        os::fail(b"cell_report: writing standard output");
+    }
+    false
+}
+
+// Writes the bytes to standard output, and answers whether all were taken. Nothing says that the output
+// takes them some day, so the loop counts its writes down, from a number that no run uses up.
+fn write_out(bytes: &[u8]) -> bool {
+    let n = bytes.len();
+    let mut done = 0;
+    let mut writes = 1125899906842624u64;
+    while done < n && writes > 0 {
+        let put = libc::write(1, &bytes[done..]);
+        if put <= 0 && !can_write_again(put) {
+            return false;
+        }
+        done += io::count(put, &bytes[done..]);
+        writes -= 1;
+    }
+    done == n
 }
 
 // Reads once, behind the bytes that the block has already: these stay.
@@ -69,17 +117,28 @@ struct Went {
     ended: bool,
 }
 
-// Nothing more is read: the input has ended, or could not be read.
-fn stopped(tally: Tally, have: usize, ended: bool) -> Went
+// Nothing came: the input has ended, could not be read, or is to be read again.
+fn stayed(tally: Tally, have: usize, more: bool, ended: bool) -> Went
     ensures { λ w. ⌜ (w .tally ≡ tally) × (w .have ≡ have) × (w .made ≡ 0) ⌝ }
 {
     Went {
         tally,
         have,
         made: 0,
-        more: false,
+        more,
         ended,
     }
+}
+
+// A read failed: it is tried again where that can help, and else it is said why it failed.
+fn after_failure(tally: Tally, have: usize) -> Went
+    ensures { λ w. ⌜ (w .tally ≡ tally) × (w .have ≡ have) × (w .made ≡ 0) ⌝ }
+{
+    let again = can_try_again();
+    if !again {
+        os::fail(b"cell_report: reading standard input");
+    }
+    stayed(tally, have, again, false)
 }
 
 // What came was fed; it goes on where the output takes more.
@@ -96,8 +155,8 @@ fn went_on(d: Fed, more: bool) -> Went
     }
 }
 
-// Reads once, and writes the lines of the records that are whole. A failed read is said on standard
-// error, and is not the end of the input; an output that takes no more ends the program quietly.
+// Reads once, and writes the lines of the records that are whole. A failed read is not the end of the
+// input, and an output that takes no more ends the program.
 // The state before and after are those of a run, whose lines stand in `out`; no contract can say
 // that `read` gave the input's bytes, or what `write` wrote.
 fn read_once(
@@ -122,15 +181,14 @@ fn read_once(
 {
     let came = read_more(block, have);
     if came.failed {
-        io::write_all(2, b"cell_report: reading standard input failed\n");
-        return stopped(t, have, false);
+        return after_failure(t, have);
     }
     if came.bytes == 0 {
-        return stopped(t, have, true);
+        return stayed(t, have, false, true);
     }
     let d = take_in(t, came, block, coords, corners, ends, queries, out);
     let made = d.made;
-    let more = io::write_all(1, &out[..made]);
+    let more = write_out(&out[..made]);
     went_on(d, more)
 }
 
@@ -162,7 +220,7 @@ fn run(
     }
     if ended {
         let k = finish(t, have, out);
-        io::write_all(1, &out[..k]);
+        write_out(&out[..k]);
     }
 }
 

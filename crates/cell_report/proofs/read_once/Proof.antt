@@ -16,7 +16,7 @@ returns c =
     let args = start .args in
     let pre = start .pre in
     let record { before = _; read-more = read } : tie.After-read-more = search in
-    let same = c .stopped .ensures in
+    let same = c .after-failure .ensures in
     let number = ap (λ (t : Tally). t .number) (same .0) in (
       (subst Fits (sym (same .0)) (pre .1 .0), omega (arith, number), omega (arith, same .1, pre .1 .1 .0)),
       stays (args .coords .now) (args .corners .now) (args .ends .now) (args .queries .now) (args .block .now) (read .last .0)
@@ -29,15 +29,15 @@ returns-2 c =
     let args = start .args in
     let pre = start .pre in
     let record { before = _; read-more = read } : tie.After-read-more = search in
-    let same = c .stopped2 .ensures in
+    let same = c .stayed .ensures in
     let number = ap (λ (t : Tally). t .number) (same .0) in (
       (subst Fits (sym (same .0)) (pre .1 .0), omega (arith, number), omega (arith, same .1, pre .1 .1 .0)),
       stays (args .coords .now) (args .corners .now) (args .ends .now) (args .queries .now) (args .block .now) (read .last .0)
           (args .out .now) (same .0) (same .1) (same .2) (read .ensures .1),
     )
 
-slice-aggregate-write-all-2 : tie.Need-slice-aggregate-write-all-2
-slice-aggregate-write-all-2 c =
+slice-aggregate-write-out : tie.Need-slice-aggregate-write-out
+slice-aggregate-write-out c =
     let record { before = _; take-in = taken } : tie.After-take-in = search in
     sym (length-take-le (taken .result .made) _ (omega (arith, taken .ensures .0 .3, taken .kept .1 .1 .1 .1 .1 .1 .1 .0)))
 
@@ -73,12 +73,12 @@ pub read-once-spec : {M : Type 1} → statement M
 read-once-spec =
     tie.close
     (tie.spec
-    (λ c κs. search needs) (λ c. search needs) (λ c κs. search needs) (λ c κs. search needs) (λ c. search needs)
+    (λ c κs. search needs) (λ c κs. search needs) (λ c. search needs)
     returns
     (λ c κs. search needs) (λ c. search needs)
     returns-2
     (λ c κs. search needs) (λ c. search needs)
-    slice-aggregate-write-all-2
+    slice-aggregate-write-out
     (λ c κs. search needs) (λ c κs. search needs)
     same-length-3
     (λ c. search needs) (λ c. search needs) (λ c. search needs) (λ c. search needs) (λ c. search needs)

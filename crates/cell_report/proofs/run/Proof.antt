@@ -106,13 +106,13 @@ finish-requires c κs =
     let record { before = _; loop = loop } : tie.At-loop Inv-loop μ-loop = search in
     omega (arith, loop .inv .for-out, start .pre .1 .1)
 
-slice-reshare-prefix-write-all : tie.Need-slice-reshare-prefix-write-all Inv-loop μ-loop
-slice-reshare-prefix-write-all c =
+slice-reshare-prefix-write-out : tie.Need-slice-reshare-prefix-write-out Inv-loop μ-loop
+slice-reshare-prefix-write-out c =
     let record { before = _; finish = finish } : tie.After-finish Inv-loop μ-loop = search in
     omega (arith, finish .ensures .1 .0, finish .kept .1 .1 .0)
 
-slice-aggregate-write-all : tie.Need-slice-aggregate-write-all Inv-loop μ-loop
-slice-aggregate-write-all c =
+slice-aggregate-write-out : tie.Need-slice-aggregate-write-out Inv-loop μ-loop
+slice-aggregate-write-out c =
     let record { before = _; finish = finish } : tie.After-finish Inv-loop μ-loop = search in
     sym (length-take-le (finish .result) _ (omega (arith, finish .ensures .1 .0, finish .kept .1 .1 .0)))
 
@@ -135,8 +135,8 @@ run-spec =
     loop-less
     loop-again
     finish-requires
-    slice-reshare-prefix-write-all
-    slice-aggregate-write-all
+    slice-reshare-prefix-write-out
+    slice-aggregate-write-out
     (λ c κs. tt)
     (λ c. search needs) (λ c. search needs) (λ c. search needs) (λ c. search needs) (λ c. search needs)
     same-length-6

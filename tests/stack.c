@@ -1,0 +1,105 @@
+/* How much stack the calls take that take most, at their largest inputs: each runs on a stack of its own that was painted before, and what
+ * is no longer painted was used. Prints a line a call, and ends with 1 where a call takes more than include/wegrusamt.h says.
+ * tests/stack builds and runs it. */
+#include <stdio.h>
+#include <stdlib.h>
+#include <string.h>
+#include <ucontext.h>
+#include "wegrusamt.h"
+
+enum { SIZE = 1 << 20, PAINT = 0xA5, RING = 16, VERTICES = RING * RING, MOST = 2048 };
+
+static unsigned char *stack;
+static ucontext_t back, there;
+static double coords[3 * VERTICES], far_coords[3 * VERTICES], queries[768], first[3072], second[3072], planes[1024], plane[1024];
+static uint32_t torus[4 * VERTICES], torus_ends[VERTICES], wide[MOST], wide_ends[VERTICES], one[MOST], one_end[1], marked[2304];
+static uint32_t triangles[MOST][3];
+static double out[8];
+static size_t counts[4];
+static uint8_t code;
+
+/* a ring of rings, 256 vertices and 256 quadrangles, closed; the same with eight corners a face; and one face of all corners */
+static void make_cells(void) {
+    for (int i = 0; i < RING; i++)
+        for (int j = 0; j < RING; j++) {
+            int v = RING * i + j;
+            coords[3 * v] = i + 0.25 * j;
+            coords[3 * v + 1] = j * j - 0.5 * i;
+            coords[3 * v + 2] = (i * 7 + j * 3) % 11;
+            for (int k = 0; k < 3; k++) far_coords[3 * v + k] = coords[3 * v + k] + 1;
+            int right = RING * ((i + 1) % RING) + j, up = RING * i + (j + 1) % RING, over = RING * ((i + 1) % RING) + (j + 1) % RING;
+            uint32_t face[4] = {v, right, over, up};
+            memcpy(torus + 4 * v, face, sizeof face);
+            torus_ends[v] = 4 * (v + 1);
+            for (int k = 0; k < 4; k++) wide[8 * v + k] = wide[8 * v + 7 - k] = face[k];
+            wide_ends[v] = 8 * (v + 1);
+        }
+    for (int k = 0; k < MOST; k++) one[k] = k % VERTICES;
+    one_end[0] = MOST;
+    for (int k = 0; k < 2304; k++) marked[k] = k % 9 == 8 ? UINT32_MAX : (uint32_t)(k % VERTICES);
+    for (int k = 0; k < 256; k++) planes[4 * k] = 1, planes[4 * k + 3] = 14 - k / 32.0;
+    for (int k = 0; k < 512; k++) plane[2 * k] = k, plane[2 * k + 1] = k % 7;
+    for (int k = 0; k < 768; k++) queries[k] = k % 5;
+}
+
+#define TORUS coords, 3 * VERTICES, torus, 4 * VERTICES, torus_ends, VERTICES
+#define WIDE coords, 3 * VERTICES, wide, MOST, wide_ends, VERTICES
+#define ONE coords, 3 * VERTICES, one, MOST, one_end, 1
+static void nothing(void) { code = 0; }
+static void volume(void) { code = wegrusamt_volume(ONE, out, 8); }
+static void geometric_centroid(void) { code = wegrusamt_geometric_centroid(ONE, out, 8); }
+static void cut(void) { code = wegrusamt_triangles(ONE, 0, triangles, MOST, counts, 4); }
+static void closed(void) { code = wegrusamt_closed(WIDE, counts, 4); }
+static void contains(void) { code = wegrusamt_contains(WIDE, 1, 2, 3, counts, 4); }
+static void in_phed(void) { code = wegrusamt_point_in_phed(coords, 3 * VERTICES, marked, 2304, 1, 2, 3, counts, 4); }
+static void survey(void) { code = wegrusamt_survey(WIDE, queries, 768, counts, 4, out, 8); }
+static void survey_of_one_face(void) { code = wegrusamt_survey(ONE, queries, 768, counts, 4, out, 8); }
+static void is_convex(void) { code = wegrusamt_is_convex(WIDE, 2, counts, 4); }
+static void into_ccw(void) { code = wegrusamt_into_ccw(WIDE); }
+static void turn_faces(void) { code = wegrusamt_turn_faces(TORUS, counts, 4); }
+static void plane_of_face(void) { code = wegrusamt_plane_of_face(ONE, 0, out, 8); }
+static void clip_face(void) { code = wegrusamt_clip_face(TORUS, 17, planes, 1024, 0, first, 3072, second, 3072, counts, 4); }
+static void clip_convex(void) { code = wegrusamt_clip_convex(plane, 1024, plane, 1024, first, 3072, second, 3072, counts, 4); }
+static void overlap(void) {
+    code = wegrusamt_convex_intersection_volume(TORUS, far_coords, 3 * VERTICES, torus, 4 * VERTICES, torus_ends, VERTICES, first, 3072,
+                                                second, 3072, out, 8);
+}
+
+/* bytes of the stack that a call has used */
+static size_t used(void (*call)(void)) {
+    memset(stack, PAINT, SIZE);
+    getcontext(&there);
+    there.uc_stack.ss_sp = stack;
+    there.uc_stack.ss_size = SIZE;
+    there.uc_link = &back;
+    makecontext(&there, call, 0);
+    swapcontext(&back, &there);
+    size_t free = 0;
+    while (free < SIZE && stack[free] == PAINT) free++;
+    return SIZE - free;
+}
+
+int main(int n, char **words) {
+    static const struct { const char *name; void (*call)(void); } calls[] = {
+        {"volume", volume}, {"geometric_centroid", geometric_centroid}, {"triangles", cut}, {"closed", closed}, {"contains", contains},
+        {"point_in_phed", in_phed}, {"survey", survey}, {"survey, one face", survey_of_one_face}, {"is_convex", is_convex},
+        {"into_ccw", into_ccw}, {"turn_faces", turn_faces}, {"plane_of_face", plane_of_face}, {"clip_face", clip_face},
+        {"clip_convex", clip_convex}, {"convex_intersection_volume", overlap},
+    };
+    size_t most = n > 1 ? strtoull(words[1], 0, 10) : SIZE;
+    int over = 0;
+    stack = malloc(SIZE);
+    if (!stack) return 2;
+    make_cells();
+    size_t none = used(nothing);
+    for (size_t k = 0; k < sizeof calls / sizeof *calls; k++) {
+        size_t bytes = used(calls[k].call) - none;
+        printf("%-26s %6zu bytes%s\n", calls[k].name, bytes, code ? " (refused)" : "");
+        if (code && code != 6) over = 1;
+        if (bytes > most) {
+            printf("%s takes more than the %zu bytes that the header says\n", calls[k].name, most);
+            over = 1;
+        }
+    }
+    return over;
+}

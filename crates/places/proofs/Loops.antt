@@ -66,27 +66,20 @@ any-taken {A} test l = go l false
         either true = refl
         either false = refl
 
--- ---- a loop that goes once round a ring, from each corner to the next
+-- ---- a loop that goes once round a ring, from each corner to the next: it takes in the sides
 pub record Rounding {A S : Type 0} (f : A → A → S → S) (l : List A) (whole : S) (i : ℕ) (s : S) : Type 0 where
-  pub within : i ≤ length l
-  pub so : foldPairs f (drop i (sides l)) s ≡ whole
+  pub taking : Taking (λ e. f (e .0) (e .1)) (sides l) whole i s
 
 module _ {A S : Type 0} {f : A → A → S → S} {l : List A} {whole : S} where
   pub round-start : {s : S} → foldPairs f (sides l) s ≡ whole → Rounding f l whole 0 s
-  round-start e = record { within = zero-le; so = e }
+  round-start e = record { taking = take-start e }
 
   pub round-next : {i : ℕ} {s s′ : S} (d : A) → Rounding f l whole i s → i < length l
       → s′ ≡ f (getD l i d) (getD l (nextOf i (length l)) d) s → Rounding f l whole (i + 1) s′
-  unfolding foldList
-  round-next {i} {s} {s′} d p h e =
-      let g : i < length (sides l) = rw (length-sides l) h in
-      record { within = omega arith; so = rw e (sym (rw (drop-more (sides l) i (d, d) g, side-at l i d h)) ∙ p .so) }
+  round-next {i} d p h e = record { taking = take-next (d, d) (p .taking) (rw (length-sides l) h) (rw (side-at l i d h) e) }
 
   pub round-end : {i : ℕ} {s : S} → Rounding f l whole i s → length l ≤ i → s ≡ whole
-  unfolding foldList
-  round-end {i} {s} p h =
-      let g : length (sides l) ≤ i = rw (length-sides l) h in
-      sym (rw (drop-of-length-le (sides l) g)) ∙ p .so
+  round-end p h = take-end (p .taking) (rw (length-sides l) h)
 
 -- ---- a loop that asks whether the test holds of an element
 pub record Asking {A : Type 0} (test : A → Bool) (l : List A) (whole : Bool) (i : ℕ) : Type 0 where

@@ -90,11 +90,6 @@ module _ {A : Type 0} where
       let e1 : suc (suc (i * 2)) + 1 ≡ suc (suc (i * 2 + 1)) = omega arith in
       rw (e, e1) (over-pairs-set l i a b (omega arith))
 
-  -- a point of the plane is its two numbers
-  pub pairs-whole : (l : List A) (i : ℕ) (d : A) → i < length (inPairs l)
-      → getD (getD (inPairs l) i []) 0 d ∷ getD (getD (inPairs l) i []) 1 d ∷ [] ≡ getD (inPairs l) i []
-  pairs-whole l i d h = rw (pairs-at l i d (omega (arith, length-pairs l)))
-
 -- ---- a point laid down, the first points, the front of a list
 three-more : (n : ℕ) → suc n * 3 ≡ suc (suc (suc (n * 3)))
 three-more n = omega arith

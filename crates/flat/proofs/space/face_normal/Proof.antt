@@ -1,6 +1,6 @@
 -- `flat::space::face_normal` meets its contract: the loop keeps the corner that it came from, and the sides still to walk make, with the
 -- sums so far, the whole (`Walking`).
-use mathlib.Core.Path.{_≡_, refl}
+use mathlib.Core.Path.{refl}
 use mathlib.Core.List.{[]}
 use Prim.Native.Nat.{_-_}
 use native.Mathlib.Omega.{arith}
@@ -16,7 +16,7 @@ use Rattle.flat.proofs.space.face_normal.Tie as tie
 abbrev Inv-loop : tie.InvT-loop
 Inv-loop coords face n first s₀ a₀ i₀ s a i =
     let ps = cornersOf (verticesOf coords) face in
-    (n ≡ length face) × Walking newellSide ps (newellOf ps) first i a s
+    Walking newellSide ps (newellOf ps) first i a s
 
 abbrev μ-loop : tie.MeasureT-loop
 μ-loop coords face n first s₀ a₀ i₀ s a i = n - i
@@ -29,21 +29,21 @@ unfolding newellOf
 loop-holds c =
     let start : tie.Start Inv-loop μ-loop = search in
     let as-many = length-corners (verticesOf (start .args .coords .now)) (start .args .face .now) in
-    (refl, walk-start [] (omega arith) (c .vertex-at .ensures) refl)
+    walk-start [] (omega arith) (c .vertex-at .ensures) refl
 
 loop-again : tie.Need-loop-again Inv-loop μ-loop
 loop-again c =
     let start : tie.Start Inv-loop μ-loop = search in
     let at : tie.At-loop Inv-loop μ-loop = search in
     let as-many = length-corners (verticesOf (start .args .coords .now)) (start .args .face .now) in
-    (at .loop .inv .0, walk-next [] (at .loop .inv .1) (omega arith) (c .before .vertex-at2 .ensures) (cc))
+    walk-next [] (at .loop .inv) (omega arith) (c .before .vertex-at2 .ensures) (cc)
 
 returns : tie.Need-returns-2 Inv-loop μ-loop
 returns c =
     let start : tie.Start Inv-loop μ-loop = search in
     let at : tie.At-loop Inv-loop μ-loop = search in
     let as-many = length-corners (verticesOf (start .args .coords .now)) (start .args .face .now) in
-    walk-end (at .loop .inv .1) (omega arith) (c .newell-side2 .ensures)
+    walk-end (at .loop .inv) (omega arith) (c .newell-side2 .ensures)
 
 pub face-normal-spec : {M : Type 1} → statement M
 face-normal-spec =

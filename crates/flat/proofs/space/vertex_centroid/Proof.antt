@@ -17,7 +17,7 @@ use Rattle.flat.proofs.space.vertex_centroid.Tie as tie
 abbrev Inv-loop : tie.InvT-loop
 Inv-loop coords n s₀ i₀ s i =
     let ps = verticesOf coords in
-    (n ≡ length ps) × (n ≤ 256) × Taking (plusOf 3) ps (foldList (plusOf 3) ps (pointBy 3 (λ k. zero64))) i s
+    (n ≡ length ps) × Taking (plusOf 3) ps (foldList (plusOf 3) ps (pointBy 3 (λ k. zero64))) i s
 
 abbrev μ-loop : tie.MeasureT-loop
 μ-loop coords n s₀ i₀ s i = n - i
@@ -25,18 +25,18 @@ abbrev μ-loop : tie.MeasureT-loop
 loop-holds : tie.Need-loop-holds Inv-loop μ-loop
 loop-holds c =
     let start : tie.Start Inv-loop μ-loop = search in
-    (sym (length-threes (start .args .coords .now)), omega arith, take-start refl)
+    (sym (length-threes (start .args .coords .now)), take-start refl)
 
 loop-again : tie.Need-loop-again Inv-loop μ-loop
 loop-again c =
     let at : tie.At-loop Inv-loop μ-loop = search in
-    (at .loop .inv .0, at .loop .inv .1, take-next [] (at .loop .inv .2) (search needs) (cc))
+    (at .loop .inv .0, take-next [] (at .loop .inv .1) (search needs) (cc))
 
 returns : tie.Need-returns Inv-loop μ-loop
 unfolding centroidOf
 returns c =
     let at : tie.At-loop Inv-loop μ-loop = search in
-    cc (take-end (at .loop .inv .2) (search needs))
+    cc (take-end (at .loop .inv .1) (search needs))
 
 pub vertex-centroid-spec : {M : Type 1} → statement M
 vertex-centroid-spec =

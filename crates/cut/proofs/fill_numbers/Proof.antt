@@ -11,21 +11,19 @@ use Rattle.cut.proofs.fill_numbers.Statement.{statement}
 use Rattle.cut.proofs.fill_numbers.Tie as tie
 
 abbrev Inv-loop : tie.InvT-loop
-Inv-loop face ns₀ n i₀ ns i = (n ≡ length face) × Storing (λ k s. getD face k 0) (length face) (length face) face i ns
+Inv-loop face ns₀ n i₀ ns i = Storing (λ k s. getD face k 0) n n face i ns
 
 abbrev μ-loop : tie.MeasureT-loop
 μ-loop face ns₀ n i₀ ns i = n - i
 
 loop-holds : tie.Need-loop-holds Inv-loop μ-loop
-loop-holds c = (refl, record { long = c .pre; folding = fold-start (fill-copy 0 _ _ (c .pre)) })
+loop-holds c = record { long = c .pre; folding = fold-start (fill-copy 0 _ _ (c .pre)) }
 
 loop-again : tie.Need-loop-again Inv-loop μ-loop
-loop-again c =
-    let loop = c .before .before .loop in
-    (loop .inv .0, store-next (loop .inv .1) (omega arith) refl)
+loop-again c = store-next (c .before .before .loop .inv) (omega arith) refl
 
 returns : tie.Need-returns Inv-loop μ-loop
-returns c = store-end (c .before .loop .inv .1) (omega arith)
+returns c = store-end (c .before .loop .inv) (omega arith)
 
 pub fill-numbers-spec : {M : Type 1} → statement M
 fill-numbers-spec =

@@ -15,9 +15,8 @@ use Rattle.cut.proofs.fill_points.Tie as tie
 
 abbrev Inv-loop : tie.InvT-loop
 Inv-loop coords ring axis ps₀ n i₀ ps i =
-    (n ≡ length ring) ×
-    Storing (λ k s. pointOf (verticesOf coords) axis (getD ring k 0)) (length ring) (length ring)
-    (pointsOf (verticesOf coords) axis ring) i ps
+    let at = pointOf (verticesOf coords) axis in
+    Storing (λ k s. at (getD ring k 0)) n n (pointsOf (verticesOf coords) axis ring) i ps
 
 abbrev μ-loop : tie.MeasureT-loop
 μ-loop coords ring axis ps₀ n i₀ ps i = n - i
@@ -25,23 +24,16 @@ abbrev μ-loop : tie.MeasureT-loop
 loop-holds : tie.Need-loop-holds Inv-loop μ-loop
 unfolding pointsOf
 loop-holds c =
-    let args = c .before .before .args in
-    let pre = c .before .before .pre in (
-      refl,
-      record {
-        long = pre .1;
-        folding = fold-start
-            (fill-map 0 (pointOf (verticesOf (args .coords .now)) (args .axis)) (args .ring .now) _ (pre .1));
-      },
-    )
+    let start : tie.Start Inv-loop μ-loop = search in
+    let args = start .args in
+    let pointAt = pointOf (verticesOf (args .coords .now)) (args .axis) in
+    record { long = start .pre .1; folding = fold-start (fill-map 0 pointAt (args .ring .now) _ (start .pre .1)) }
 
 loop-again : tie.Need-loop-again Inv-loop μ-loop
-loop-again c =
-    let loop = c .before .before .loop in
-    (loop .inv .0, store-next (loop .inv .1) (omega arith) (cc))
+loop-again c = store-next (c .before .before .loop .inv) (omega arith) (cc)
 
 returns : tie.Need-returns Inv-loop μ-loop
-returns c = store-end (c .before .loop .inv .1) (omega arith)
+returns c = store-end (c .before .loop .inv) (omega arith)
 
 pub fill-points-spec : {M : Type 1} → statement M
 fill-points-spec =

@@ -10,21 +10,19 @@ use Rattle.cut.proofs.remove_number.Statement.{statement}
 use Rattle.cut.proofs.remove_number.Tie as tie
 
 abbrev Inv-loop : tie.InvT-loop
-Inv-loop ns₀ k last j₀ ns j = (last + 1 ≡ length ns₀) × Removing 0 ns₀ k j ns
+Inv-loop ns₀ k last j₀ ns j = Removing 0 ns₀ k j ns
 
 abbrev μ-loop : tie.MeasureT-loop
 μ-loop ns₀ k last j₀ ns j = last - j
 
 loop-holds : tie.Need-loop-holds Inv-loop μ-loop
-loop-holds c = (omega arith, remove-start 0 (c .args .ns .now) (c .args .k) (search needs))
+loop-holds c = remove-start 0 (c .args .ns .now) (c .args .k) (search needs)
 
 loop-again : tie.Need-loop-again Inv-loop μ-loop
-loop-again c =
-    let loop = c .before .before .loop in
-    (loop .inv .0, store-next (loop .inv .1) (omega arith) refl)
+loop-again c = store-next (c .before .before .loop .inv) (omega arith) refl
 
 returns : tie.Need-returns Inv-loop μ-loop
-returns c = store-end (c .before .loop .inv .1) (omega arith)
+returns c = store-end (c .before .loop .inv) (omega arith)
 
 pub remove-number-spec : {M : Type 1} → statement M
 remove-number-spec =

@@ -11,21 +11,19 @@ use Rattle.cut.proofs.remove_point.Statement.{statement}
 use Rattle.cut.proofs.remove_point.Tie as tie
 
 abbrev Inv-loop : tie.InvT-loop
-Inv-loop ps₀ k last j₀ ps j = (last + 1 ≡ length ps₀) × Removing [] ps₀ k j ps
+Inv-loop ps₀ k last j₀ ps j = Removing [] ps₀ k j ps
 
 abbrev μ-loop : tie.MeasureT-loop
 μ-loop ps₀ k last j₀ ps j = last - j
 
 loop-holds : tie.Need-loop-holds Inv-loop μ-loop
-loop-holds c = (omega arith, remove-start [] (c .args .ps .now) (c .args .k) (search needs))
+loop-holds c = remove-start [] (c .args .ps .now) (c .args .k) (search needs)
 
 loop-again : tie.Need-loop-again Inv-loop μ-loop
-loop-again c =
-    let loop = c .before .before .loop in
-    (loop .inv .0, store-next (loop .inv .1) (omega arith) refl)
+loop-again c = store-next (c .before .before .loop .inv) (omega arith) refl
 
 returns : tie.Need-returns Inv-loop μ-loop
-returns c = store-end (c .before .loop .inv .1) (omega arith)
+returns c = store-end (c .before .loop .inv) (omega arith)
 
 pub remove-point-spec : {M : Type 1} → statement M
 remove-point-spec =

@@ -11,8 +11,7 @@ use Rattle.cell.proofs.empty_refused.Statement.{statement}
 use Rattle.cell.proofs.empty_refused.Tie as tie
 
 abbrev Inv-loop : tie.InvT-loop
-Inv-loop corners ends n start₀ k₀ start k =
-    (n ≡ length ends) × FaceAsking isEmpty corners ends (emptyRefused corners ends) start k
+Inv-loop corners ends n start₀ k₀ start k = FaceAsking isEmpty corners ends (emptyRefused corners ends) start k
 
 abbrev μ-loop : tie.MeasureT-loop
 μ-loop corners ends n start₀ k₀ start k = n - k
@@ -21,16 +20,15 @@ loop-holds : tie.Need-loop-holds Inv-loop μ-loop
 unfolding emptyRefused
 loop-holds c =
     let start : tie.Start Inv-loop μ-loop = search in
-    let pre = start .pre in
-    (refl, faces-start pre refl)
+    faces-start (start .pre) refl
 
-returns : tie.Need-returns Inv-loop μ-loop
+one-empty : tie.Need-returns Inv-loop μ-loop
 unfolding emptyRefused
-returns c =
+one-empty c =
     let corner = c .before .corner in
     let record { before = _; loop = loop } : tie.At-loop Inv-loop μ-loop = search in
     let start : tie.Start Inv-loop μ-loop = search in
-    faces-yes (loop .inv .1) (search needs) (corner .ensures .0)
+    faces-yes (loop .inv) (search needs) (corner .ensures .0)
     (empty-yes (loop .start) (corner .result) (start .args .corners .now) (search needs))
 
 loop-again : tie.Need-loop-again Inv-loop μ-loop
@@ -39,17 +37,13 @@ loop-again c =
     let corner = c .before .corner in
     let record { before = _; loop = loop } : tie.At-loop Inv-loop μ-loop = search in
     let start : tie.Start Inv-loop μ-loop = search in
-    let l = loop .inv .1 in
-    let q = corner .ensures .0 in
-    let step = faces-step l (search needs) q in (
-      loop .inv .0,
-      faces-no l (search needs) q
-          (empty-no (loop .start) (corner .result) (start .args .corners .now) (step .from) (step .upto) (c .if1 .left)),
-    )
+    let step = faces-step (loop .inv) (search needs) (corner .ensures .0) in
+    faces-no (loop .inv) (search needs) (corner .ensures .0)
+    (empty-no (loop .start) (corner .result) (start .args .corners .now) (step .from) (step .upto) (c .if1 .left))
 
-returns-2 : tie.Need-returns-2 Inv-loop μ-loop
+none-empty : tie.Need-returns-2 Inv-loop μ-loop
 unfolding emptyRefused
-returns-2 c = faces-end (c .before .loop .inv .1) (search needs)
+none-empty c = faces-end (c .before .loop .inv) (search needs)
 
 pub empty-refused-spec : {M : Type 1} → statement M
 unfolding emptyRefused
@@ -60,7 +54,7 @@ empty-refused-spec =
     μ-loop
     loop-holds
     (λ c κs. search needs)
-    returns
+    one-empty
     (λ c. search needs) (λ c. search needs)
     loop-again
-    returns-2)
+    none-empty)

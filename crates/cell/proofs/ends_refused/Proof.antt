@@ -11,31 +11,31 @@ use Rattle.cell.proofs.ends_refused.Tie as tie
 
 abbrev Inv-loop : tie.InvT-loop
 Inv-loop corners ends n fall₀ start₀ k₀ fall start k =
-    (n ≡ length ends) × (start < 4294967296) × Falling ends (length corners) (endsRefused corners ends) fall start k
+    (start < 4294967296) × Falling ends (length corners) (endsRefused corners ends) fall start k
 
 abbrev μ-loop : tie.MeasureT-loop
 μ-loop corners ends n fall₀ start₀ k₀ fall start k = n - k
 
 loop-holds : tie.Need-loop-holds Inv-loop μ-loop
 unfolding endsRefused
-loop-holds c = (refl, search needs, falls-start refl)
+loop-holds c = (search needs, falls-start refl)
 
 loop-again : tie.Need-loop-again Inv-loop μ-loop
 unfolding endsRefused
 loop-again c =
     let stored = c .before .stored in
     let record { before = _; loop = loop } : tie.At-loop Inv-loop μ-loop = search in
-    (loop .inv .0, stored .ensures .1, falls-next (loop .inv .2) (search needs) (stored .ensures .0) (c .one-or-both .ensures))
+    (stored .ensures .1, falls-next (loop .inv .1) (search needs) (stored .ensures .0) (c .one-or-both .ensures))
 
 cast-one-or-both : tie.Need-cast-one-or-both Inv-loop μ-loop
 unfolding endsRefused
-cast-one-or-both c = omega (arith, c .before .loop .inv .1)
+cast-one-or-both c = omega (arith, c .before .loop .inv .0)
 
 returns : tie.Need-returns Inv-loop μ-loop
 unfolding endsRefused
 returns c =
     let record { before = _; loop = loop } : tie.At-loop Inv-loop μ-loop = search in
-    falls-end (loop .inv .2) (search needs) (c .one-or-both2 .ensures)
+    falls-end (loop .inv .1) (search needs) (c .one-or-both2 .ensures)
 
 pub ends-refused-spec : {M : Type 1} → statement M
 unfolding endsRefused

@@ -9,24 +9,24 @@ use Rattle.cell.proofs.index_refused.Statement.{statement}
 use Rattle.cell.proofs.index_refused.Tie as tie
 
 abbrev Inv-loop : tie.InvT-loop
-Inv-loop n cs beyond m refused₀ i₀ refused i = (m ≡ length cs) × Taking (orTest (notBelow n)) cs (indexRefused n cs) i refused
+Inv-loop n cs beyond m refused₀ i₀ refused i = Taking (orTest (notBelow n)) cs (indexRefused n cs) i refused
 
 abbrev μ-loop : tie.MeasureT-loop
 μ-loop n cs beyond m refused₀ i₀ refused i = m - i
 
 loop-holds : tie.Need-loop-holds Inv-loop μ-loop
 unfolding indexRefused
-loop-holds c = (refl, take-start (any-taken (notBelow _) _))
+loop-holds c = take-start (any-taken (notBelow _) _)
 
 loop-again : tie.Need-loop-again Inv-loop μ-loop
 unfolding indexRefused
 loop-again c =
     let record { before = _; loop = loop } : tie.At-loop Inv-loop μ-loop = search in
-    (loop .inv .0, take-next 0 (loop .inv .1) (search needs) (cc))
+    take-next 0 (loop .inv) (search needs) (cc)
 
 returns : tie.Need-returns Inv-loop μ-loop
 unfolding indexRefused
-returns c = take-end (c .before .loop .inv .1) (search needs)
+returns c = take-end (c .before .loop .inv) (search needs)
 
 pub index-refused-spec : {M : Type 1} → statement M
 unfolding indexRefused

@@ -10,24 +10,24 @@ use Rattle.cell.proofs.number_refused.Statement.{statement}
 use Rattle.cell.proofs.number_refused.Tie as tie
 
 abbrev Inv-loop : tie.InvT-loop
-Inv-loop xs n refused₀ i₀ refused i = (n ≡ length xs) × Taking (orTest outOfRange) xs (numberRefused xs) i refused
+Inv-loop xs n refused₀ i₀ refused i = Taking (orTest outOfRange) xs (numberRefused xs) i refused
 
 abbrev μ-loop : tie.MeasureT-loop
 μ-loop xs n refused₀ i₀ refused i = n - i
 
 loop-holds : tie.Need-loop-holds Inv-loop μ-loop
 unfolding numberRefused
-loop-holds c = (refl, take-start (any-taken outOfRange _))
+loop-holds c = take-start (any-taken outOfRange _)
 
 loop-again : tie.Need-loop-again Inv-loop μ-loop
 unfolding numberRefused
 loop-again c =
     let record { before = _; loop = loop } : tie.At-loop Inv-loop μ-loop = search in
-    (loop .inv .0, take-next nan (loop .inv .1) (search needs) (cc))
+    take-next nan (loop .inv) (search needs) (cc)
 
 returns : tie.Need-returns Inv-loop μ-loop
 unfolding numberRefused
-returns c = take-end (c .before .loop .inv .1) (search needs)
+returns c = take-end (c .before .loop .inv) (search needs)
 
 pub number-refused-spec : {M : Type 1} → statement M
 unfolding numberRefused

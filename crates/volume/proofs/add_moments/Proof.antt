@@ -15,13 +15,13 @@ use Rattle.volume.proofs.add_moments.Tie as tie
 abbrev Inv-loop : tie.InvT-loop
 Inv-loop coords tris refp n s₀ i₀ s i =
     let add = addMoment (verticesOf coords) refp in
-    (n ≡ length tris) × Taking add tris (foldList add tris s₀) i s
+    Taking add tris (foldList add tris s₀) i s
 
 abbrev μ-loop : tie.MeasureT-loop
 μ-loop coords tris refp n s₀ i₀ s i = n - i
 
 loop-holds : tie.Need-loop-holds Inv-loop μ-loop
-loop-holds c = (refl, take-start refl)
+loop-holds c = take-start refl
 
 add-moment-requires : tie.Need-add-moment-requires Inv-loop μ-loop
 add-moment-requires c κs =
@@ -31,10 +31,10 @@ add-moment-requires c κs =
 loop-again : tie.Need-loop-again Inv-loop μ-loop
 loop-again c =
     let at : tie.At-loop Inv-loop μ-loop = search in
-    (at .loop .inv .0, take-next [] (at .loop .inv .1) (search needs) (cc))
+    take-next [] (at .loop .inv) (search needs) (cc)
 
 returns : tie.Need-returns Inv-loop μ-loop
-returns c = take-end (c .before .loop .inv .1) (search needs)
+returns c = take-end (c .before .loop .inv) (search needs)
 
 pub add-moments-spec : {M : Type 1} → statement M
 add-moments-spec =

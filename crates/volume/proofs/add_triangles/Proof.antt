@@ -15,13 +15,13 @@ use Rattle.volume.proofs.add_triangles.Tie as tie
 abbrev Inv-loop : tie.InvT-loop
 Inv-loop coords tris refp v n s₀ i₀ s i =
     let add = addTriple (verticesOf coords) refp in
-    (n ≡ length tris) × Taking add tris (foldList add tris v) i s
+    Taking add tris (foldList add tris v) i s
 
 abbrev μ-loop : tie.MeasureT-loop
 μ-loop coords tris refp v n s₀ i₀ s i = n - i
 
 loop-holds : tie.Need-loop-holds Inv-loop μ-loop
-loop-holds c = (refl, take-start refl)
+loop-holds c = take-start refl
 
 triple-requires : tie.Need-triple-requires Inv-loop μ-loop
 triple-requires c κs =
@@ -31,10 +31,10 @@ triple-requires c κs =
 loop-again : tie.Need-loop-again Inv-loop μ-loop
 loop-again c =
     let at : tie.At-loop Inv-loop μ-loop = search in
-    (at .loop .inv .0, take-next [] (at .loop .inv .1) (search needs) (cc))
+    take-next [] (at .loop .inv) (search needs) (cc)
 
 returns : tie.Need-returns Inv-loop μ-loop
-returns c = take-end (c .before .loop .inv .1) (search needs)
+returns c = take-end (c .before .loop .inv) (search needs)
 
 pub add-triangles-spec : {M : Type 1} → statement M
 add-triangles-spec =

@@ -19,7 +19,7 @@ use Rattle.volume.proofs.measure_in.Tie as tie
 abbrev Inv-loop : tie.InvT-loop
 Inv-loop coords corners ends out₀ refp n m₀ start₀ k₀ out m start k =
     let vs = verticesOf coords in
-    (n ≡ length ends) × (length out ≡ length out₀) × (m .triangles ≤ start) × (m .short ≤ k) ×
+    (length out ≡ length out₀) × (m .triangles ≤ start) × (m .short ≤ k) ×
     Facing (addFace vs refp) corners ends (measuredOf vs (facesOf corners ends)) start k m
 
 abbrev μ-loop : tie.MeasureT-loop
@@ -35,12 +35,12 @@ loop-holds c =
     let start : tie.Start Inv-loop μ-loop = search in
     let args = start .args in
     let all = measured-all (verticesOf (args .coords .now)) (facesOf (args .corners .now) (args .ends .now)) in
-    (refl, refl, omega arith, omega arith, face-start (start .pre .0 .ordered) (rw (c .vertex-centroid .ensures) all))
+    (refl, omega arith, omega arith, face-start (start .pre .0 .ordered) (rw (c .vertex-centroid .ensures) all))
 
 face-requires : tie.Need-face-requires Inv-loop μ-loop
 face-requires c κs =
     let at : tie.At-loop Inv-loop μ-loop = search in
-    let step = face-step (at .loop .inv .4) (search needs) (c .corner .ensures .0) in
+    let step = face-step (at .loop .inv .3) (search needs) (c .corner .ensures .0) in
     (step .from, step .upto)
 
 add-face-requires : tie.Need-add-face-requires Inv-loop μ-loop
@@ -51,7 +51,7 @@ add-face-requires c κs =
     let at : tie.At-loop Inv-loop μ-loop = search in
     let loop = at .loop in
     let end : tie.After-corner Inv-loop μ-loop = search in
-    let step = face-step (loop .inv .4) (search needs) (end .corner .ensures .0) in
+    let step = face-step (loop .inv .3) (search needs) (end .corner .ensures .0) in
     let long = length-slice (loop .start) (end .corner .result) corners (step .upto) in
     rw (c .before .face .ensures) (
       each-slice (loop .start) (end .corner .result) corners (pre .0 .inside),
@@ -69,22 +69,21 @@ loop-again c =
     let at : tie.At-loop Inv-loop μ-loop = search in
     let loop = at .loop in
     let end : tie.After-corner Inv-loop μ-loop = search in
-    let step = face-step (loop .inv .4) (search needs) (end .corner .ensures .0) in
+    let step = face-step (loop .inv .3) (search needs) (end .corner .ensures .0) in
     let long = length-slice (loop .start) (end .corner .result) corners (step .upto) in
     let face = slice (loop .start) (end .corner .result) corners in
     let with-face : tie.After-add-face Inv-loop μ-loop = search in
     let more = with-face .add-face in
     let same : more .result ≡ addFace vs refp face (loop .m) = cc in
     let counts = added vs refp face (loop .m) (more .result) same in (
-      loop .inv .0,
       omega (arith, more .kept),
       omega arith,
       omega arith,
-      face-next (loop .inv .4) (search needs) (end .corner .ensures .0) same,
+      face-next (loop .inv .3) (search needs) (end .corner .ensures .0) same,
     )
 
 returns : tie.Need-returns Inv-loop μ-loop
-returns c = face-end (c .before .loop .inv .4) (search needs)
+returns c = face-end (c .before .loop .inv .3) (search needs)
 
 pub measure-in-spec : {M : Type 1} → statement M
 measure-in-spec =

@@ -19,7 +19,7 @@ use Rattle.volume.proofs.moments_in.Tie as tie
 abbrev Inv-loop : tie.InvT-loop
 Inv-loop coords corners ends refp out₀ n m₀ start₀ i₀ out m start i =
     let vs = verticesOf coords in
-    (n ≡ length ends) × (length out ≡ length out₀) ×
+    (length out ≡ length out₀) ×
     Facing (addFaceMoments vs refp) corners ends (momentsOf vs (facesOf corners ends)) start i m
 
 abbrev μ-loop : tie.MeasureT-loop
@@ -30,12 +30,12 @@ loop-holds c =
     let start : tie.Start Inv-loop μ-loop = search in
     let args = start .args in
     let all = moments-all (verticesOf (args .coords .now)) (facesOf (args .corners .now) (args .ends .now)) in
-    (refl, refl, face-start (start .pre .0 .ordered) (rw (start .pre .1 .1) all))
+    (refl, face-start (start .pre .0 .ordered) (rw (start .pre .1 .1) all))
 
 face-requires : tie.Need-face-requires Inv-loop μ-loop
 face-requires c κs =
     let at : tie.At-loop Inv-loop μ-loop = search in
-    let step = face-step (at .loop .inv .2) (search needs) (c .corner .ensures .0) in
+    let step = face-step (at .loop .inv .1) (search needs) (c .corner .ensures .0) in
     (step .from, step .upto)
 
 add-face-moments-requires : tie.Need-add-face-moments-requires Inv-loop μ-loop
@@ -46,7 +46,7 @@ add-face-moments-requires c κs =
     let at : tie.At-loop Inv-loop μ-loop = search in
     let loop = at .loop in
     let end : tie.After-corner Inv-loop μ-loop = search in
-    let step = face-step (loop .inv .2) (search needs) (end .corner .ensures .0) in
+    let step = face-step (loop .inv .1) (search needs) (end .corner .ensures .0) in
     let long = length-slice (loop .start) (end .corner .result) corners (step .upto) in
     rw (c .before .face .ensures)
     (each-slice (loop .start) (end .corner .result) corners (pre .0 .inside), (omega arith, omega arith))
@@ -58,10 +58,10 @@ loop-again c =
     let end : tie.After-corner Inv-loop μ-loop = search in
     let with-face : tie.After-add-face-moments Inv-loop μ-loop = search in
     let more = with-face .add-face-moments in
-    (loop .inv .0, omega (arith, more .kept), face-next (loop .inv .2) (search needs) (end .corner .ensures .0) (cc))
+    (omega (arith, more .kept), face-next (loop .inv .1) (search needs) (end .corner .ensures .0) (cc))
 
 returns : tie.Need-returns Inv-loop μ-loop
-returns c = face-end (c .before .loop .inv .2) (search needs)
+returns c = face-end (c .before .loop .inv .1) (search needs)
 
 pub moments-in-spec : {M : Type 1} → statement M
 moments-in-spec =

@@ -17,7 +17,7 @@ use Rattle.inside.proofs.in_outline.Tie as tie
 abbrev Inv-loop : tie.InvT-loop
 Inv-loop coords face axis p n first inside₀ a₀ i₀ inside a i =
     let ps = pointsOf (verticesOf coords) axis face in
-    (n ≡ length face) × Walking (passSide p) ps (inOutline p ps) first i a inside
+    Walking (passSide p) ps (inOutline p ps) first i a inside
 
 abbrev μ-loop : tie.MeasureT-loop
 μ-loop coords face axis p n first inside₀ a₀ i₀ inside a i = n - i
@@ -31,7 +31,7 @@ loop-holds c =
     let start : tie.Start Inv-loop μ-loop = search in
     let args = start .args in
     let as-many = length-points (verticesOf (args .coords .now)) (args .axis) (args .face .now) in
-    (refl, walk-start [] (omega arith) (c .point-at .ensures ∙ sym (points-at _ _ _ 0 (omega arith))) refl)
+    walk-start [] (omega arith) (c .point-at .ensures ∙ sym (points-at _ _ _ 0 (omega arith))) refl
 
 loop-again : tie.Need-loop-again Inv-loop μ-loop
 loop-again c =
@@ -40,7 +40,7 @@ loop-again c =
     let at : tie.At-loop Inv-loop μ-loop = search in
     let as-many = length-points (verticesOf (args .coords .now)) (args .axis) (args .face .now) in
     let point = points-at (verticesOf (args .coords .now)) (args .axis) (args .face .now) (at .loop .i) (omega arith) in
-    (at .loop .inv .0, walk-next [] (at .loop .inv .1) (omega arith) (c .before .point-at2 .ensures ∙ sym point) (c .pass-side .ensures))
+    walk-next [] (at .loop .inv) (omega arith) (c .before .point-at2 .ensures ∙ sym point) (c .pass-side .ensures)
 
 returns : tie.Need-returns-2 Inv-loop μ-loop
 returns c =
@@ -48,7 +48,7 @@ returns c =
     let args = start .args in
     let at : tie.At-loop Inv-loop μ-loop = search in
     let as-many = length-points (verticesOf (args .coords .now)) (args .axis) (args .face .now) in
-    walk-end (at .loop .inv .1) (omega arith) (c .pass-side2 .ensures)
+    walk-end (at .loop .inv) (omega arith) (c .pass-side2 .ensures)
 
 pub in-outline-spec : {M : Type 1} → statement M
 in-outline-spec =

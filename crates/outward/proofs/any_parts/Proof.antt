@@ -16,7 +16,7 @@ use Rattle.outward.proofs.any_parts.Tie as tie
 abbrev Inv-loop : tie.InvT-loop
 Inv-loop coords corners ends n start₀ k₀ start k =
     let parts = faceParts (verticesOf coords) in
-    (n ≡ length ends) × FaceAsking parts corners ends (anyOf parts (facesOf corners ends)) start k
+    FaceAsking parts corners ends (anyOf parts (facesOf corners ends)) start k
 
 abbrev μ-loop : tie.MeasureT-loop
 μ-loop coords corners ends n start₀ k₀ start k = n - k
@@ -24,12 +24,12 @@ abbrev μ-loop : tie.MeasureT-loop
 loop-holds : tie.Need-loop-holds Inv-loop μ-loop
 loop-holds c =
     let start : tie.Start Inv-loop μ-loop = search in
-    (refl, faces-start (start .pre .ordered) refl)
+    faces-start (start .pre .ordered) refl
 
 face-requires : tie.Need-face-requires Inv-loop μ-loop
 face-requires c κs =
     let at : tie.At-loop Inv-loop μ-loop = search in
-    let step = faces-step (at .loop .inv .1) (search needs) (c .corner .ensures .0) in
+    let step = faces-step (at .loop .inv) (search needs) (c .corner .ensures .0) in
     (step .from, step .upto)
 
 face-parts-requires : tie.Need-face-parts-requires Inv-loop μ-loop
@@ -42,16 +42,16 @@ found : tie.Need-returns Inv-loop μ-loop
 found c =
     let at : tie.At-loop Inv-loop μ-loop = search in
     let end : tie.After-corner Inv-loop μ-loop = search in
-    faces-yes (at .loop .inv .1) (search needs) (end .corner .ensures .0) (cc)
+    faces-yes (at .loop .inv) (search needs) (end .corner .ensures .0) (cc)
 
 loop-again : tie.Need-loop-again Inv-loop μ-loop
 loop-again c =
     let at : tie.At-loop Inv-loop μ-loop = search in
     let end : tie.After-corner Inv-loop μ-loop = search in
-    (at .loop .inv .0, faces-no (at .loop .inv .1) (search needs) (end .corner .ensures .0) (cc))
+    faces-no (at .loop .inv) (search needs) (end .corner .ensures .0) (cc)
 
 not-found : tie.Need-returns-2 Inv-loop μ-loop
-not-found c = faces-end (c .before .loop .inv .1) (search needs)
+not-found c = faces-end (c .before .loop .inv) (search needs)
 
 pub any-parts-spec : {M : Type 1} → statement M
 any-parts-spec =

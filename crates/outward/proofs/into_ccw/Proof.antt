@@ -18,7 +18,6 @@ use Rattle.outward.proofs.into_ccw.Tie as tie
 abbrev Inv-loop : tie.InvT-loop
 Inv-loop coords corners₀ ends reference n start₀ k₀ corners start k =
     let vs = verticesOf coords in
-    (n ≡ length ends) ×
     Stretches (outwardOf vs reference) corners₀ ends (outwardCorners vs (facesOf corners₀ ends)) start k corners
 
 abbrev μ-loop : tie.MeasureT-loop
@@ -34,7 +33,7 @@ unfolding outwardCorners
 loop-holds c =
     let start : tie.Start Inv-loop μ-loop = search in
     let pre = start .pre in
-    (refl, stretch-start (pre .0 .ordered) (pre .1) (rw (c .vertex-centroid .ensures)))
+    stretch-start (pre .0 .ordered) (pre .1) (rw (c .vertex-centroid .ensures))
 
 -- where the face k stands: its stretch lies in the list of corners
 stretch : (c : tie.After-corner Inv-loop μ-loop) → let s : tie.Start Inv-loop μ-loop = search in
@@ -42,7 +41,7 @@ stretch : (c : tie.After-corner Inv-loop μ-loop) → let s : tie.Start Inv-loop
     Step (l .loop .start) (s .args .ends .now) (length (s .args .corners .now)) (l .loop .k) (c .corner .result)
 stretch c =
     let at : tie.At-loop Inv-loop μ-loop = search in
-    stretch-step (at .loop .inv .1) (search needs) (c .corner .ensures .0)
+    stretch-step (at .loop .inv) (search needs) (c .corner .ensures .0)
 
 mul-face-outward : tie.Need-mul-face-outward Inv-loop μ-loop
 mul-face-outward c =
@@ -60,13 +59,13 @@ part-face-outward-end : tie.Need-part-face-outward-end Inv-loop μ-loop
 part-face-outward-end c =
     let at : tie.At-loop Inv-loop μ-loop = search in
     let step = stretch c in
-    omega (arith, at .loop .inv .1 .long)
+    omega (arith, at .loop .inv .long)
 
 face-outward-requires : tie.Need-face-outward-requires Inv-loop μ-loop
 face-outward-requires c κs =
     let start : tie.Start Inv-loop μ-loop = search in
     let at : tie.At-loop Inv-loop μ-loop = search in
-    let inv = at .loop .inv .1 in
+    let inv = at .loop .inv in
     let end : tie.After-corner Inv-loop μ-loop = search in
     let last = end .corner in (
       rw (stretch-part inv (search needs) (last .ensures .0))
@@ -77,16 +76,15 @@ face-outward-requires c κs =
 loop-again : tie.Need-loop-again Inv-loop μ-loop
 loop-again c =
     let at : tie.At-loop Inv-loop μ-loop = search in
-    let inv = at .loop .inv in
     let end : tie.After-corner Inv-loop μ-loop = search in
     let turned : tie.After-face-outward Inv-loop μ-loop = search in
-    (inv .0, stretch-next (inv .1) (search needs) (end .corner .ensures .0) (length-outward _ _) (turned .face-outward .ensures))
+    stretch-next (at .loop .inv) (search needs) (end .corner .ensures .0) (length-outward _ _) (turned .face-outward .ensures)
 
 same-length : tie.Need-same-length Inv-loop μ-loop
-same-length c = c .before .loop .inv .1 .long
+same-length c = c .before .loop .inv .long
 
 returns : tie.Need-returns Inv-loop μ-loop
-returns c = stretch-end (c .before .loop .inv .1) (search needs)
+returns c = stretch-end (c .before .loop .inv) (search needs)
 
 pub into-ccw-spec : {M : Type 1} → statement M
 into-ccw-spec =

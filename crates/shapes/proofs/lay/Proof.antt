@@ -11,7 +11,7 @@ use Rattle.shapes.proofs.lay.Statement.{statement}
 use Rattle.shapes.proofs.lay.Tie as tie
 
 abbrev Inv-loop : tie.InvT-loop
-Inv-loop coords₀ ps n i₀ coords i = (n ≡ length ps) × Laying ps i coords
+Inv-loop coords₀ ps n i₀ coords i = Laying ps i coords
 
 abbrev μ-loop : tie.MeasureT-loop
 μ-loop coords₀ ps n i₀ coords i = n - i
@@ -19,7 +19,7 @@ abbrev μ-loop : tie.MeasureT-loop
 loop-holds : tie.Need-loop-holds Inv-loop μ-loop
 loop-holds c =
     let start : tie.Start Inv-loop μ-loop = search in
-    (refl, lay-start (start .pre))
+    lay-start (start .pre)
 
 put-vertex-requires : tie.Need-put-vertex-requires Inv-loop μ-loop
 put-vertex-requires c κs =
@@ -30,10 +30,10 @@ loop-again : tie.Need-loop-again Inv-loop μ-loop
 loop-again c =
     let at : tie.At-loop Inv-loop μ-loop = search in
     let laid : tie.After-put-vertex Inv-loop μ-loop = search in
-    (refl, lay-next (at .loop .inv .1) (search needs) (laid .put-vertex .kept .0) (laid .put-vertex .ensures .0))
+    lay-next (at .loop .inv) (search needs) (laid .put-vertex .kept .0) (laid .put-vertex .ensures .0)
 
 returns : tie.Need-returns Inv-loop μ-loop
-returns c = lay-end (c .before .loop .inv .1) (search needs)
+returns c = lay-end (c .before .loop .inv) (search needs)
 
 pub lay-spec : {M : Type 1} → statement M
 lay-spec =

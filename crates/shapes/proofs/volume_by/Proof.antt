@@ -11,14 +11,14 @@ use Rattle.shapes.proofs.volume_by.Statement.{statement}
 use Rattle.shapes.proofs.volume_by.Tie as tie
 
 abbrev Inv-loop : tie.InvT-loop
-Inv-loop ps table n v₀ i₀ v i = (n ≡ length table) × Taking (addTet ps) table (volumeBy table ps) i v
+Inv-loop ps table n v₀ i₀ v i = Taking (addTet ps) table (volumeBy table ps) i v
 
 abbrev μ-loop : tie.MeasureT-loop
 μ-loop ps table n v₀ i₀ v i = n - i
 
 loop-holds : tie.Need-loop-holds Inv-loop μ-loop
 unfolding volumeBy
-loop-holds c = (refl, take-start refl)
+loop-holds c = take-start refl
 
 tet-by-requires : tie.Need-tet-by-requires Inv-loop μ-loop
 tet-by-requires c κs =
@@ -28,10 +28,10 @@ tet-by-requires c κs =
 loop-again : tie.Need-loop-again Inv-loop μ-loop
 loop-again c =
     let at : tie.At-loop Inv-loop μ-loop = search in
-    (at .loop .inv .0, take-next [] (at .loop .inv .1) (search needs) (cc))
+    take-next [] (at .loop .inv) (search needs) (cc)
 
 returns : tie.Need-returns Inv-loop μ-loop
-returns c = take-end (c .before .loop .inv .1) (search needs)
+returns c = take-end (c .before .loop .inv) (search needs)
 
 pub volume-by-spec : {M : Type 1} → statement M
 volume-by-spec =

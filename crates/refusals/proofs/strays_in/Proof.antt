@@ -11,21 +11,21 @@ use Rattle.refusals.proofs.strays_in.Statement.{statement}
 use Rattle.refusals.proofs.strays_in.Tie as tie
 
 abbrev Inv-loop : tie.InvT-loop
-Inv-loop n cs beyond m any₀ i₀ any i = (m ≡ length cs) × Taking (orTest (strays n)) cs (anyOf (strays n) cs) i any
+Inv-loop n cs beyond m any₀ i₀ any i = Taking (orTest (strays n)) cs (anyOf (strays n) cs) i any
 
 abbrev μ-loop : tie.MeasureT-loop
 μ-loop n cs beyond m any₀ i₀ any i = m - i
 
 loop-holds : tie.Need-loop-holds Inv-loop μ-loop
-loop-holds c = (refl, take-start (any-taken (strays _) _))
+loop-holds c = take-start (any-taken (strays _) _)
 
 loop-again : tie.Need-loop-again Inv-loop μ-loop
 loop-again c =
     let at : tie.At-loop Inv-loop μ-loop = search in
-    (at .loop .inv .0, take-next 0 (at .loop .inv .1) (search needs) (cc))
+    take-next 0 (at .loop .inv) (search needs) (cc)
 
 returns : tie.Need-returns Inv-loop μ-loop
-returns c = take-end (c .before .loop .inv .1) (search needs)
+returns c = take-end (c .before .loop .inv) (search needs)
 
 pub strays-in-spec : {M : Type 1} → statement M
 strays-in-spec =

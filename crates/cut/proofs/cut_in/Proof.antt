@@ -8,14 +8,14 @@ use Rattle.cut.proofs.cut_in.Tie as tie
 
 cut-ring-requires : tie.Need-cut-ring-requires
 cut-ring-requires c κs =
-    let fill-numbers = c .before .before .before .before .before .fill-numbers in
+    let record { before = _; fill-numbers = fill-numbers } : tie.After-fill-numbers = search in
     let start : tie.Start = search in
     let pre = start .pre in
     rw (fill-numbers .ensures) (pre .0, (pre .1 .1, pre .1 .2, pre .1 .3))
 
 returns : tie.Need-returns
 returns c =
-    let cut-ring = c .before .before .before .before .cut-ring in
+    let record { before = _; cut-ring = cut-ring } : tie.After-cut-ring = search in
     let record { before = _; fill-numbers = fill-numbers } : tie.After-fill-numbers = search in
     let record { before = _; dominant-axis = dominant-axis } : tie.After-dominant-axis = search in
     let record { before = _; face-normal = face-normal } : tie.After-face-normal = search in

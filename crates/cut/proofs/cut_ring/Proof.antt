@@ -28,105 +28,104 @@ loop-holds c =
     start (verticesOf (args .coords .now)) (args .axis) (args .ns .now) _ (args .out .now) _ (pre .1 .1) (pre .1 .2)
     (fill-points .ensures) (c .direction .ensures)
 
-slice-relend-prefix-step : tie.Need-slice-relend-prefix-step Inv-loop μ-loop
-slice-relend-prefix-step c = omega (arith, c .before .loop .inv)
+ring-in-list : tie.Need-slice-relend-prefix-step Inv-loop μ-loop
+ring-in-list c = omega (arith, c .before .loop .inv)
 
-slice-aggregate-step : tie.Need-slice-aggregate-step Inv-loop μ-loop
-slice-aggregate-step c =
-    let loop = c .before .before .loop in
-    sym (length-take-le _ _ (omega (arith, loop .inv)))
+ring-many : tie.Need-slice-aggregate-step Inv-loop μ-loop
+ring-many c =
+    let at : tie.At-loop Inv-loop μ-loop = search in
+    sym (length-take-le _ _ (omega (arith, at .loop .inv)))
 
-slice-relend-prefix-step-2 : tie.Need-slice-relend-prefix-step-2 Inv-loop μ-loop
-slice-relend-prefix-step-2 c =
-    let loop = c .before .before .loop in
-    omega (arith, loop .inv)
+points-in-list : tie.Need-slice-relend-prefix-step-2 Inv-loop μ-loop
+points-in-list c =
+    let at : tie.At-loop Inv-loop μ-loop = search in
+    omega (arith, at .loop .inv)
 
-slice-aggregate-step-2 : tie.Need-slice-aggregate-step-2 Inv-loop μ-loop
-slice-aggregate-step-2 c =
-    let loop = c .before .before .before .loop in
-    sym (length-take-le _ _ (omega (arith, loop .inv)))
+points-many : tie.Need-slice-aggregate-step-2 Inv-loop μ-loop
+points-many c =
+    let at : tie.At-loop Inv-loop μ-loop = search in
+    sym (length-take-le _ _ (omega (arith, at .loop .inv)))
 
 step-requires : tie.Need-step-requires Inv-loop μ-loop
 step-requires c κs =
-    let loop = c .before .before .before .before .loop in
-    let g = loop .inv in
-    (parts g, omega (arith, g))
+    let at : tie.At-loop Inv-loop μ-loop = search in
+    (parts (at .loop .inv), omega (arith, at .loop .inv))
 
-same-length : tie.Need-same-length Inv-loop μ-loop
-same-length c =
-    let step = c .before .before .before .before .before .step in
+same-ring : tie.Need-same-length Inv-loop μ-loop
+same-ring c =
+    let record { before = _; step = step } : tie.After-step Inv-loop μ-loop = search in
     let record { before = _; loop = loop } : tie.At-loop Inv-loop μ-loop = search in
     length-front (loop .ns) (step .last .0) (loop .m) (step .kept .0) ∙ loop .inv .many
 
-same-length-2 : tie.Need-same-length-2 Inv-loop μ-loop
-same-length-2 c =
-    let step = c .before .before .before .before .before .step in
+same-points : tie.Need-same-length-2 Inv-loop μ-loop
+same-points c =
+    let record { before = _; step = step } : tie.After-step Inv-loop μ-loop = search in
     let record { before = _; loop = loop } : tie.At-loop Inv-loop μ-loop = search in
     let at-start : tie.Start Inv-loop μ-loop = search in
     length-front (loop .ps) (step .last .1 .0) (loop .m) (step .kept .1 .0) ∙ loop .inv .many-ps ∙ sym (at-start .pre .1 .0)
 
-same-length-3 : tie.Need-same-length-3 Inv-loop μ-loop
-same-length-3 c =
-    let step = c .before .before .before .before .before .step in
+same-triangles : tie.Need-same-length-3 Inv-loop μ-loop
+same-triangles c =
+    let record { before = _; step = step } : tie.After-step Inv-loop μ-loop = search in
     let record { before = _; loop = loop } : tie.At-loop Inv-loop μ-loop = search in
     step .kept .1 .1 .1 .0 ∙ loop .inv .many-out
 
-returns : tie.Need-returns Inv-loop μ-loop
-returns c =
-    let step = c .before .before .before .before .before .step in
+stuck : tie.Need-returns Inv-loop μ-loop
+stuck c =
+    let record { before = _; step = step } : tie.After-step Inv-loop μ-loop = search in
     let record { before = _; loop-test = loop-test } : tie.In-loop Inv-loop μ-loop = search in
     let record { before = _; loop = loop } : tie.At-loop Inv-loop μ-loop = search in
     let n = step-no (step .ensures) (not-true _ (c .if1 .taken)) in
     stop (loop .inv) _ (loop-test .taken) (n .0) (n .1)
 
-sub-m : tie.Need-sub-m Inv-loop μ-loop
-sub-m c =
-    let record { before = _; loop = loop } : tie.At-loop Inv-loop μ-loop = search in
-    omega (arith, loop .inv)
+one-less : tie.Need-sub-m Inv-loop μ-loop
+one-less c =
+    let at : tie.At-loop Inv-loop μ-loop = search in
+    omega (arith, at .loop .inv)
 
-add-t : tie.Need-add-t Inv-loop μ-loop
-add-t c =
-    let record { before = _; loop = loop } : tie.At-loop Inv-loop μ-loop = search in
+one-more : tie.Need-add-t Inv-loop μ-loop
+one-more c =
+    let at : tie.At-loop Inv-loop μ-loop = search in
     let at-start : tie.Start Inv-loop μ-loop = search in
-    omega (arith, loop .inv, at-start .good)
+    omega (arith, at .loop .inv, at-start .good)
 
 loop-less : tie.Need-loop-less Inv-loop μ-loop
 loop-less c =
-    let record { before = _; loop = loop } : tie.At-loop Inv-loop μ-loop = search in
-    omega (arith, loop .inv)
+    let at : tie.At-loop Inv-loop μ-loop = search in
+    omega (arith, at .loop .inv)
 
 loop-again : tie.Need-loop-again Inv-loop μ-loop
 loop-again c =
-    let step = c .before .before .before .before .before .step in
+    let record { before = _; step = step } : tie.After-step Inv-loop μ-loop = search in
     let record { before = _; loop-test = loop-test } : tie.In-loop Inv-loop μ-loop = search in
     let record { before = _; loop = loop } : tie.At-loop Inv-loop μ-loop = search in
     let y = step-yes (step .ensures) (not-false _ (c .if1 .left)) in
     again (loop .inv) (y .0) _ _ _ (loop-test .taken) (y .1) (y .2) (y .3) (y .4) (step .kept .0) (step .kept .1 .0)
     (step .kept .1 .1 .1 .0)
 
-slice-read-t26 : tie.Need-slice-read-t26 Inv-loop μ-loop
-slice-read-t26 c =
-    let loop = c .before .before .loop in
-    omega (arith, loop .inv)
+first-there : tie.Need-slice-read-t26 Inv-loop μ-loop
+first-there c =
+    let at : tie.At-loop Inv-loop μ-loop = search in
+    omega (arith, at .loop .inv)
 
-slice-read-t28 : tie.Need-slice-read-t28 Inv-loop μ-loop
-slice-read-t28 c =
-    let loop = c .before .before .before .loop in
-    omega (arith, loop .inv)
+second-there : tie.Need-slice-read-t28 Inv-loop μ-loop
+second-there c =
+    let at : tie.At-loop Inv-loop μ-loop = search in
+    omega (arith, at .loop .inv)
 
-slice-read-t30 : tie.Need-slice-read-t30 Inv-loop μ-loop
-slice-read-t30 c =
-    let loop = c .before .before .before .before .loop in
-    omega (arith, loop .inv)
+third-there : tie.Need-slice-read-t30 Inv-loop μ-loop
+third-there c =
+    let at : tie.At-loop Inv-loop μ-loop = search in
+    omega (arith, at .loop .inv)
 
-add-t31 : tie.Need-add-t31 Inv-loop μ-loop
-add-t31 c =
-    let loop = c .before .before .before .before .loop in
+last-counted : tie.Need-add-t31 Inv-loop μ-loop
+last-counted c =
+    let at : tie.At-loop Inv-loop μ-loop = search in
     let at-start : tie.Start Inv-loop μ-loop = search in
-    omega (arith, loop .inv, at-start .good)
+    omega (arith, at .loop .inv, at-start .good)
 
-returns-2 : tie.Need-returns-2 Inv-loop μ-loop
-returns-2 c =
+three-left : tie.Need-returns-2 Inv-loop μ-loop
+three-left c =
     let loop-test = c .before .before .before .loop-test in
     let loop = c .before .before .before .before .loop in
     end (loop .inv) _ (loop-test .left) refl
@@ -139,23 +138,23 @@ cut-ring-spec =
     μ-loop
     (λ c κs. search needs) (λ c κs. search needs)
     loop-holds
-    slice-relend-prefix-step
-    slice-aggregate-step
-    slice-relend-prefix-step-2
-    slice-aggregate-step-2
+    ring-in-list
+    ring-many
+    points-in-list
+    points-many
     step-requires
-    same-length
-    same-length-2
-    same-length-3
-    returns
-    sub-m
-    add-t
+    same-ring
+    same-points
+    same-triangles
+    stuck
+    one-less
+    one-more
     loop-less
     loop-again
-    slice-read-t26
-    slice-read-t28
-    slice-read-t30
+    first-there
+    second-there
+    third-there
     (λ c. search needs) (λ c. search needs)
-    add-t31
+    last-counted
     (λ c. search needs) (λ c. search needs) (λ c. search needs)
-    returns-2)
+    three-left)

@@ -16,15 +16,15 @@ cut-at-requires c κs =
     let e : findCorner (args .ps .now) (args .dir) ≡ At (f .given .0 .0) = cc in
     omega (arith, choose-below (args .ps .now) (args .dir) (f .given .0 .0) e)
 
-returns : tie.Need-returns
-returns c =
+none-found : tie.Need-returns
+none-found c =
     let start : tie.Start = search in
     let args = start .args in
     let e : findCorner (args .ps .now) (args .dir) ≡ Nothing = cc in
     record { did = rw e (refl, refl, refl, refl) }
 
-returns-2 : tie.Need-returns-2
-returns-2 c =
+cut : tie.Need-returns-2
+cut c =
     let record { before = _; f = f } : tie.After-f = search in
     let start : tie.Start = search in
     let args = start .args in
@@ -38,6 +38,6 @@ step-spec =
     (λ c κs. search needs) (λ c. search needs) (λ c. search needs)
     cut-at-requires
     (λ c. search needs)
-    returns
+    none-found
     (λ c. search needs) (λ c. search needs) (λ c. search needs)
-    returns-2)
+    cut)

@@ -5,46 +5,42 @@ use borrow.Author.Needs.{needs}
 use Rattle.next_corner.proofs.blocks.Statement.{statement}
 use Rattle.next_corner.proofs.blocks.Tie as tie
 
-returns : tie.Need-returns
+is-a : tie.Need-returns
 unfolding blocksOf
-returns c = rw (← c .before .same2 .ensures, c .if1 .taken)
+is-a c = rw (← c .before .same2 .ensures, c .if1 .taken)
 
-returns-2 : tie.Need-returns-2
+is-b : tie.Need-returns-2
 unfolding blocksOf
-returns-2 c =
-    let if1 = c .before .before .if1 in
-    let same2 = c .before .before .before .same2 in
-    rw (← same2 .ensures, if1 .left, ← c .before .same22 .ensures, c .if2 .taken)
+is-b c =
+    let not-a : tie.Else1 = search in
+    rw (← not-a .before .same2 .ensures, not-a .if1 .left, ← c .before .same22 .ensures, c .if2 .taken)
 
-returns-3 : tie.Need-returns-3
+is-c : tie.Need-returns-3
 unfolding blocksOf
-returns-3 c =
-    let if2 = c .before .before .if2 in
-    let same22 = c .before .before .before .same22 in
-    let if1 = c .before .before .before .before .if1 in
-    let same2 = c .before .before .before .before .before .same2 in
-    rw (← same2 .ensures, if1 .left, ← same22 .ensures, if2 .left, ← c .before .same23 .ensures, c .if3 .taken)
+is-c c =
+    let not-a : tie.Else1 = search in
+    let not-b : tie.Else2 = search in
+    rw (← not-a .before .same2 .ensures, not-a .if1 .left, ← not-b .before .same22 .ensures, not-b .if2 .left)
+    (rw (← c .before .same23 .ensures, c .if3 .taken))
 
-returns-4 : tie.Need-returns-4
+no-corner : tie.Need-returns-4
 unfolding blocksOf
-returns-4 c =
-    let same23 = c .before .before .same23 in
-    let if2 = c .before .before .before .if2 in
-    let same22 = c .before .before .before .before .same22 in
-    let if1 = c .before .before .before .before .before .if1 in
-    let same2 = c .before .before .before .before .before .before .same2 in
-    rw (← same2 .ensures, if1 .left, ← same22 .ensures, if2 .left, ← same23 .ensures, c .before .if3 .left)
-    (c .strictly-in .ensures)
+no-corner c =
+    let not-a : tie.Else1 = search in
+    let not-b : tie.Else2 = search in
+    let not-c : tie.Else3 = search in
+    rw (← not-a .before .same2 .ensures, not-a .if1 .left, ← not-b .before .same22 .ensures, not-b .if2 .left)
+    (rw (← not-c .before .same23 .ensures, not-c .if3 .left) (c .strictly-in .ensures))
 
 pub blocks-spec : {M : Type 1} → statement M
 blocks-spec =
     tie.close
     (tie.spec
     (λ c κs. search needs)
-    returns
+    is-a
     (λ c κs. search needs)
-    returns-2
+    is-b
     (λ c κs. search needs)
-    returns-3
+    is-c
     (λ c κs. search needs)
-    returns-4)
+    no-corner)

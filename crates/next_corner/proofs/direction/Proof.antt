@@ -4,18 +4,18 @@ use borrow.Author.Needs.{needs}
 use Rattle.next_corner.proofs.direction.Statement.{statement}
 use Rattle.next_corner.proofs.direction.Tie as tie
 
-returns : tie.Need-returns
+forward : tie.Need-returns
 unfolding directionOf
-returns c = rw (← c .before .summed-area .ensures, c .if1 .taken)
+forward c = rw (← c .before .summed-area .ensures, c .if1 .taken)
 
-returns-2 : tie.Need-returns-2
+backward : tie.Need-returns-2
 unfolding directionOf
-returns-2 c = rw (← c .before .summed-area .ensures, c .if1 .left)
+backward c = rw (← c .before .summed-area .ensures, c .if1 .left)
 
 pub direction-spec : {M : Type 1} → statement M
 direction-spec =
     tie.close
     (tie.spec
     (λ c κs. search needs)
-    returns
-    returns-2)
+    forward
+    backward)

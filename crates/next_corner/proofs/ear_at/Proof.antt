@@ -10,9 +10,9 @@ use borrow.Author.Needs.{needs}
 use Rattle.next_corner.proofs.ear_at.Statement.{statement}
 use Rattle.next_corner.proofs.ear_at.Tie as tie
 
-returns : tie.Need-returns
+turns : tie.Need-returns
 unfolding earAt turnsAt
-returns c =
+turns c =
     let start : tie.Start = search in
     let args = start .args in
     let ps = args .ps .now in
@@ -21,9 +21,9 @@ returns c =
     c .blocked .result = cc in
     rw (t, b)
 
-returns-2 : tie.Need-returns-2
+turns-not : tie.Need-returns-2
 unfolding earAt turnsAt
-returns-2 c =
+turns-not c =
     let start : tie.Start = search in
     let args = start .args in
     let t : turnsAt (args .ps .now) (args .dir) (args .k) ≡ false = cc in
@@ -35,5 +35,5 @@ ear-at-spec =
     (tie.spec
     (λ c κs. search needs) (λ c κs. search needs) (λ c κs. search needs) (λ c κs. search needs) (λ c κs. search needs)
     (λ c κs. search needs) (λ c κs. search needs)
-    returns
-    returns-2)
+    turns
+    turns-not)

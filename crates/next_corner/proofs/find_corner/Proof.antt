@@ -4,15 +4,15 @@ use borrow.Author.Needs.{needs}
 use Rattle.next_corner.proofs.find_corner.Statement.{statement}
 use Rattle.next_corner.proofs.find_corner.Tie as tie
 
-returns : tie.Need-returns
+ear : tie.Need-returns
 unfolding findCorner
-returns c =
+ear c =
     let find-ear = c .before .before .before .find-ear in
     rw (← find-ear .ensures, c .before .f .given .1)
 
-returns-2 : tie.Need-returns-2
+no-ear : tie.Need-returns-2
 unfolding findCorner
-returns-2 c =
+no-ear c =
     let find-ear = c .before .before .before .find-ear in
     rw (← find-ear .ensures, c .before .enum-told .given .1) (c .find-turn .ensures)
 
@@ -21,5 +21,5 @@ find-corner-spec =
     tie.close
     (tie.spec
     (λ c κs. search needs) (λ c. search needs) (λ c. search needs) (λ c κs. search needs)
-    returns
-    returns-2)
+    ear
+    no-ear)

@@ -4,18 +4,18 @@ use borrow.Author.Needs.{needs}
 use Rattle.next_corner.proofs.same2.Statement.{statement}
 use Rattle.next_corner.proofs.same2.Tie as tie
 
-returns : tie.Need-returns
+first-same : tie.Need-returns
 unfolding sameOf
-returns c = rw (c .if1 .taken)
+first-same c = rw (c .if1 .taken)
 
-returns-2 : tie.Need-returns-2
+first-differs : tie.Need-returns-2
 unfolding sameOf
-returns-2 c = rw (c .if1 .left)
+first-differs c = rw (c .if1 .left)
 
 pub same2-spec : {M : Type 1} → statement M
 same2-spec =
     tie.close
     (tie.spec
     (λ c. search needs) (λ c. search needs) (λ c. search needs) (λ c. search needs)
-    returns
-    returns-2)
+    first-same
+    first-differs)

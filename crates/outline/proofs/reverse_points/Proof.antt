@@ -16,35 +16,36 @@ use Rattle.outline.proofs.reverse_points.Tie as tie
 
 abbrev Inv-loop : tie.InvT-loop
 Inv-loop ps₀ n half i₀ ps i =
-    (n ≡ length (inPairs ps₀)) × (half ≡ n / 2) × (length ps ≡ length ps₀) ×
-    Folding (mirror [] n) (n / 2) (reverse (inPairs ps₀)) i (inPairs ps) × (overPairs ps ≡ overPairs ps₀)
+    (n ≡ length (inPairs ps₀)) × (length ps ≡ length ps₀) ×
+    Folding (mirror [] n) half (reverse (inPairs ps₀)) i (inPairs ps) × (overPairs ps ≡ overPairs ps₀)
 
 abbrev μ-loop : tie.MeasureT-loop
 μ-loop ps₀ n half i₀ ps i = half - i
 
 loop-holds : tie.Need-loop-holds Inv-loop μ-loop
 loop-holds c =
-    let args = c .before .args in
-    let e = sym (length-pairs (args .ps .now)) in
-    (e, refl, refl, mirror-start [] _ (inPairs (args .ps .now)) e, refl)
+    let start : tie.Start Inv-loop μ-loop = search in
+    let ps = start .args .ps .now in
+    let e = sym (length-pairs ps) in
+    (e, refl, mirror-start [] _ (inPairs ps) e, refl)
 
 swap-points-requires : tie.Need-swap-points-requires Inv-loop μ-loop
 swap-points-requires c κs =
-    let loop = c .before .before .loop in
-    let e = length-pairs (loop .ps) in
+    let at : tie.At-loop Inv-loop μ-loop = search in
+    let e = length-pairs (at .loop .ps) in
     (omega arith, omega arith)
 
 loop-again : tie.Need-loop-again Inv-loop μ-loop
 loop-again c =
-    let swap-points = c .before .before .swap-points in
-    let loop = c .before .before .before .before .before .loop in
-    let l = loop .inv in
-    (l .0, l .1, swap-points .kept .0 ∙ l .2, mirror-next [] _ (l .3) (omega arith) (cc), swap-points .ensures .1 ∙ l .4)
+    let at : tie.At-loop Inv-loop μ-loop = search in
+    let inv = at .loop .inv in
+    let record { before = _; swap-points = swapped } : tie.After-swap-points Inv-loop μ-loop = search in
+    (inv .0, swapped .kept .0 ∙ inv .1, mirror-next [] _ (inv .2) (omega arith) (cc), swapped .ensures .1 ∙ inv .3)
 
 returns : tie.Need-returns Inv-loop μ-loop
 returns c =
     let loop = c .before .loop in
-    (fold-end (loop .inv .3) (omega arith), loop .inv .4)
+    (fold-end (loop .inv .2) (omega arith), loop .inv .3)
 
 pub reverse-points-spec : {M : Type 1} → statement M
 reverse-points-spec =

@@ -24,8 +24,8 @@ loop-holds c = (sym (length-pairs (c .before .args .ps .now)), round-start refl)
 
 loop-again : tie.Need-loop-again Inv-loop μ-loop
 loop-again c =
-    let loop = c .before .before .before .before .before .loop in
-    (loop .inv .0, round-next [] (loop .inv .1) (search needs) (cc))
+    let at : tie.At-loop Inv-loop μ-loop = search in
+    (at .loop .inv .0, round-next [] (at .loop .inv .1) (search needs) (cc))
 
 returns : tie.Need-returns Inv-loop μ-loop
 returns c = round-end (c .before .loop .inv .1) (search needs)

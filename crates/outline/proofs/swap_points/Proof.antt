@@ -6,20 +6,20 @@ use borrow.Author.Needs.{needs}
 use Rattle.outline.proofs.swap_points.Statement.{statement}
 use Rattle.outline.proofs.swap_points.Tie as tie
 
-put-pair-requires-2 : tie.Need-put-pair-requires-2
-put-pair-requires-2 c κs =
-    let put-pair = c .before .before .before .put-pair in
-    let start = c .before .before .before .before .before .before .before .before .before .before in
+second-place : tie.Need-put-pair-requires-2
+second-place c κs =
+    let record { before = _; put-pair = put-pair } : tie.After-put-pair = search in
+    let start : tie.Start = search in
     rw (put-pair .ensures .0) (simp length-set (start .pre .1))
 
 returns : tie.Need-returns
 unfolding swapped
 returns c =
-    let put-pair2 = c .before .before .put-pair2 in
-    let put-pair = c .before .before .before .before .before .before .put-pair in
-    let pair2 = c .before .before .before .before .before .before .before .before .pair2 in
-    let after-pair : tie.After-pair = search in (
-      put-pair2 .ensures .0 ∙ rw (put-pair .ensures .0, after-pair .pair .ensures, pair2 .ensures),
+    let record { before = _; put-pair2 = put-pair2 } : tie.After-put-pair2 = search in
+    let record { before = _; put-pair = put-pair } : tie.After-put-pair = search in
+    let record { before = _; pair2 = pair2 } : tie.After-pair2 = search in
+    let record { before = _; pair = pair } : tie.After-pair = search in (
+      put-pair2 .ensures .0 ∙ rw (put-pair .ensures .0, pair .ensures, pair2 .ensures),
       put-pair2 .ensures .1 ∙ put-pair .ensures .1,
     )
 
@@ -28,6 +28,6 @@ swap-points-spec =
     tie.close
     (tie.spec
     (λ c κs. search needs) (λ c κs. search needs) (λ c κs. search needs)
-    put-pair-requires-2
+    second-place
     (λ c. search needs)
     returns)

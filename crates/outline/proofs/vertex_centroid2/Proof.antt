@@ -17,25 +17,25 @@ use Rattle.outline.proofs.vertex_centroid2.Tie as tie
 
 abbrev Inv-loop : tie.InvT-loop
 Inv-loop ps n s₀ i₀ s i =
-    (n ≡ length (inPairs ps)) × (n ≤ 512) ×
+    (n ≡ length (inPairs ps)) ×
     Taking (plusOf 2) (inPairs ps) (foldList (plusOf 2) (inPairs ps) (pointBy 2 (λ k. zero64))) i s
 
 abbrev μ-loop : tie.MeasureT-loop
 μ-loop ps n s₀ i₀ s i = n - i
 
 loop-holds : tie.Need-loop-holds Inv-loop μ-loop
-loop-holds c = (sym (length-pairs (c .before .args .ps .now)), omega arith, take-start refl)
+loop-holds c = (sym (length-pairs (c .before .args .ps .now)), take-start refl)
 
 loop-again : tie.Need-loop-again Inv-loop μ-loop
 loop-again c =
     let loop = c .before .before .before .loop in
-    (loop .inv .0, loop .inv .1, take-next [] (loop .inv .2) (search needs) (cc))
+    (loop .inv .0, take-next [] (loop .inv .1) (search needs) (cc))
 
 returns : tie.Need-returns Inv-loop μ-loop
 unfolding centroidOf
 returns c =
     let loop = c .before .before .before .loop in
-    cc (take-end (loop .inv .2) (search needs))
+    cc (take-end (loop .inv .1) (search needs))
 
 pub vertex-centroid2-spec : {M : Type 1} → statement M
 vertex-centroid2-spec =

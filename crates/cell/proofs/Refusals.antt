@@ -183,9 +183,6 @@ module _ (coords : List Float) (corners ends : List ℕ) (query : List Float) (a
   pub tame : refusalOf coords corners ends query asked ≡ 0 → numberRefused coords ≡ false
   tame e = accepted e .numbers
 
-  pub query-tame : refusalOf coords corners ends query asked ≡ 0 → numberRefused query ≡ false
-  query-tame e = accepted e .queried
-
   -- the faces that are asked for are there
   pub asked-known : refusalOf coords corners ends query asked ≡ 0 → Each 0 (λ k. k < length ends) asked
   asked-known e = all-below (length ends) asked (accepted e .known)

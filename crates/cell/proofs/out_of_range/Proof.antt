@@ -3,17 +3,17 @@ use Rattle.cell.specs.Refusals.{outOfRange}
 use Rattle.cell.proofs.out_of_range.Statement.{statement}
 use Rattle.cell.proofs.out_of_range.Tie as tie
 
-returns : tie.Need-returns
+below-least : tie.Need-returns
 unfolding outOfRange
-returns c = rw (c .if1 .taken)
+below-least c = rw (c .if1 .taken)
 
-returns-2 : tie.Need-returns-2
+from-least : tie.Need-returns-2
 unfolding outOfRange
-returns-2 c = rw (c .if1 .left)
+from-least c = rw (c .if1 .left)
 
 pub out-of-range-spec : {M : Type 1} → statement M
 out-of-range-spec =
     tie.close
     (tie.spec
-    returns
-    returns-2)
+    below-least
+    from-least)

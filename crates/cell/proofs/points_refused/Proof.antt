@@ -4,19 +4,19 @@ use borrow.Author.Needs.{needs}
 use Rattle.cell.proofs.points_refused.Statement.{statement}
 use Rattle.cell.proofs.points_refused.Tie as tie
 
-returns : tie.Need-returns
-returns c = not-in-threes _ (c .if1 .taken)
+parts-of-three : tie.Need-returns
+parts-of-three c = not-in-threes _ (c .if1 .taken)
 
-returns-2 : tie.Need-returns-2
-returns-2 c = no-vertex _ (c .if2 .taken)
+none : tie.Need-returns-2
+none c = no-vertex _ (c .if2 .taken)
 
-returns-3 : tie.Need-returns-3
-returns-3 c = some-vertices _ (search needs) (c .if2 .left)
+some : tie.Need-returns-3
+some c = some-vertices _ (search needs) (c .if2 .left)
 
 pub points-refused-spec : {M : Type 1} → statement M
 points-refused-spec =
     tie.close
     (tie.spec
-    returns
-    returns-2
-    returns-3)
+    parts-of-three
+    none
+    some)

@@ -5,19 +5,19 @@ use borrow.Author.Needs.{needs}
 use Rattle.cell.proofs.size_refused.Statement.{statement}
 use Rattle.cell.proofs.size_refused.Tie as tie
 
-returns : tie.Need-returns
+points-refuse : tie.Need-returns
 unfolding sizeRefused
-returns c = rw (← c .before .points-refused .ensures, c .if1 .taken)
+points-refuse c = rw (← c .before .points-refused .ensures, c .if1 .taken)
 
-returns-2 : tie.Need-returns-2
+many-faces : tie.Need-returns-2
 unfolding sizeRefused
-returns-2 c =
+many-faces c =
     let record { before = _; points-refused = points-refused } : tie.After-points-refused = search in
     rw (← points-refused .ensures, c .before .if1 .left, lt-ltb _ _ (c .if2 .taken))
 
-returns-3 : tie.Need-returns-3
+few-faces : tie.Need-returns-3
 unfolding sizeRefused
-returns-3 c =
+few-faces c =
     let record { before = _; points-refused = points-refused } : tie.After-points-refused = search in
     rw (← points-refused .ensures, c .before .if1 .left, le-ltb _ _ (c .if2 .left))
 
@@ -27,6 +27,6 @@ size-refused-spec =
     tie.close
     (tie.spec
     (λ c κs. search needs)
-    returns
-    returns-2
-    returns-3)
+    points-refuse
+    many-faces
+    few-faces)

@@ -5,8 +5,8 @@ use borrow.Author.Needs.{needs}
 use Rattle.cell.proofs.start.Statement.{statement}
 use Rattle.cell.proofs.start.Tie as tie
 
-returns-2 : tie.Need-returns-2
-returns-2 c =
+later-face : tie.Need-returns-2
+later-face c =
     let start : tie.Start = search in
     let args = start .args in
     cc (start-at (args .ends .now) (args .k) (omega arith))
@@ -16,4 +16,4 @@ start-spec =
     tie.close
     (tie.spec
     (λ c. search needs) (λ c. search needs) (λ c κs. search needs)
-    returns-2)
+    later-face)

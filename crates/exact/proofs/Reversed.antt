@@ -86,10 +86,6 @@ face-by c [] k = go (c k)
 face-by c (f ∷ fs) zero = refl
 face-by c (f ∷ fs) (suc k) = face-by (λ n. c (suc n)) fs k
 
-pub faces-by : (c : ℕ → Bool) (fs : List (List ℕ)) → length (reversedBy c fs) ≡ length fs
-faces-by c [] = refl
-faces-by c (f ∷ fs) = ap suc (faces-by (λ k. c (suc k)) fs)
-
 -- a choice matters only at the numbers of the faces
 pub same-faces : (fs : List (List ℕ)) (c d : ℕ → Bool) → ((k : ℕ) → k < length fs → c k ≡ d k) → reversedBy c fs ≡ reversedBy d fs
 same-faces [] c d h = refl

@@ -40,7 +40,7 @@ scaled a h w q t H r e =
     same : (p s : ℕ) → a * (p * s * (p * s)) ≡ a * (p * p) * (s * s)
     same p s = omega arith
 
-module _ (b a h w q t : ℕ) (s : Scaling b a h) (r : WholeRoot a w) (e : Extended (2 ^ 26) w (a - w * w) q t) where
+module _ {b a h w q t : ℕ} (s : Scaling b a h) (r : WholeRoot a w) (e : Extended (2 ^ 26) w (a - w * w) q t) where
   sized : (2 ^ 52 ≤ q) × (q < 2 ^ 53)
   sized = full-size s r e
 

@@ -14,30 +14,30 @@ use Rattle.floats.proofs.root.Tie as tie
 held : (c : tie.Start) → T (fits binary64 (c .args .x))
 held c = holds (c .good .0 .1)
 
-returns : tie.Need-returns
-returns c = root-of-nan (c .before .args .x) (c .if1 .taken)
+of-nan : tie.Need-returns
+of-nan c = root-of-nan (c .before .args .x) (c .if1 .taken)
 
 float-to-bits-b : tie.Need-float-to-bits-b
 float-to-bits-b c = no-nan (c .before .args .x) (c .if1 .left)
 
-returns-2 : tie.Need-returns-2
-returns-2 c =
+of-zero : tie.Need-returns-2
+of-zero c =
     let start = c .before .before in
     own-root (start .args .x) 0 (held start) (c .if2 .taken) plus-zero
 
-returns-3 : tie.Need-returns-3
-returns-3 c =
+of-minus-zero : tie.Need-returns-3
+of-minus-zero c =
     let start = c .before .before .before in
     own-root (start .args .x) 0x8000_0000_0000_0000 (held start) (c .if3 .taken) minus-zero
 
-returns-4 : tie.Need-returns-4
-returns-4 c =
+of-negative : tie.Need-returns-4
+of-negative c =
     let start = c .before .before .before .before in
     let args = start .args in
     root-below (args .x) (held start) (c .if4 .taken) (toBits-lt binary64 (args .x) (held start))
 
-returns-5 : tie.Need-returns-5
-returns-5 c =
+of-infinity : tie.Need-returns-5
+of-infinity c =
     let start : tie.Start = search in
     own-root (start .args .x) 0x7ff0_0000_0000_0000 (held start) (c .if5 .taken) plus-infinity
 
@@ -56,8 +56,8 @@ root-pattern-requires c κs =
 float-from-bits-result : tie.Need-float-from-bits-result
 float-from-bits-result c = fails (c .root-pattern .ensures .no-nan)
 
-returns-6 : tie.Need-returns-6
-returns-6 c =
+of-positive : tie.Need-returns-6
+of-positive c =
     let start : tie.Start = search in
     c .root-pattern .ensures .root ∙ ap (rootOf binary64) (ofBits-toBits binary64 (start .args .x) (held start))
 
@@ -65,12 +65,12 @@ pub root-spec : {M : Type 1} → statement M
 root-spec =
     tie.close
     (tie.spec
-    returns
+    of-nan
     float-to-bits-b
-    returns-2
-    returns-3
-    returns-4
-    returns-5
+    of-zero
+    of-minus-zero
+    of-negative
+    of-infinity
     root-pattern-requires
     float-from-bits-result
-    returns-6)
+    of-positive)

@@ -1,4 +1,5 @@
--- `floats::square::more_digits` meets its contract (proofs/Digits.antt, in base 2 ^ 26).
+-- `floats::square::more_digits` meets its contract: the quotient is the digits to be added or one too many, and it is one too many exactly
+-- where its square is above what is left (proofs/Digits.antt, in base 2 ^ 26).
 use Prim.Native.Nat.{_*_, _^_, _≤_, _<_}
 use native.Mathlib.Omega.{arith}
 use lib.Dec.{lit<}

@@ -1,4 +1,5 @@
--- `floats::square::root_pattern` meets its contract (proofs/Steps.antt).
+-- `floats::square::root_pattern` meets its contract: the whole root of the scaled number and the digits added to it are the first 53 of the
+-- root, and where the rest is above them the root lies past the middle to the next value (proofs/Steps.antt).
 use Prim.Native.Nat.{_^_, _≤_, _<_}
 use native.Mathlib.Omega.{arith}
 use borrow.Author.Needs.{needs}
@@ -16,32 +17,26 @@ more-digits-requires c κs =
     let h = half-size (c .whole-root .result) (scale .ensures) (c .whole-root .ensures) in
     (h .0, (h .1, rest-le (scale .result .a) (c .whole-root .result) (c .whole-root .ensures)))
 
-add-result : tie.Need-add-result
-add-result c = omega (arith, sized (c .before))
+one-more : tie.Need-add-result
+one-more c = omega (arith, sized (c .before))
 
-add-result-2 : tie.Need-add-result-2
-add-result-2 c = omega (arith, sized (c .before))
+up-fits : tie.Need-add-result-2
+up-fits c = omega (arith, sized (c .before))
 
-add-result-3 : tie.Need-add-result-3
-add-result-3 c = omega (arith, sized (c .before))
+down-fits : tie.Need-add-result-3
+down-fits c = omega (arith, sized (c .before))
 
-returns : tie.Need-returns
-returns c =
-    let more-digits = c .before .more-digits in
+rounded-up : tie.Need-returns
+rounded-up c =
     let whole-root = c .before .before .whole-root in
     let scale = c .before .before .before .scale in
-    let args = c .before .before .before .before .args in
-    carried (args .b) (scale .result .a) (scale .result .h) (whole-root .result) (more-digits .result .root)
-    (more-digits .result .rest) (scale .ensures) (whole-root .ensures) (more-digits .ensures) (c .if1 .taken)
+    carried (scale .ensures) (whole-root .ensures) (c .before .more-digits .ensures) (c .if1 .taken)
 
-returns-2 : tie.Need-returns-2
-returns-2 c =
-    let more-digits = c .before .more-digits in
+rounded-down : tie.Need-returns-2
+rounded-down c =
     let whole-root = c .before .before .whole-root in
     let scale = c .before .before .before .scale in
-    let args = c .before .before .before .before .args in
-    kept (args .b) (scale .result .a) (scale .result .h) (whole-root .result) (more-digits .result .root)
-    (more-digits .result .rest) (scale .ensures) (whole-root .ensures) (more-digits .ensures) (c .if1 .left)
+    kept (scale .ensures) (whole-root .ensures) (c .before .more-digits .ensures) (c .if1 .left)
 
 pub root-pattern-spec : {M : Type 1} → statement M
 root-pattern-spec =
@@ -50,8 +45,8 @@ root-pattern-spec =
     (λ c κs. search needs) (λ c κs. search needs) (λ c. search needs) (λ c. search needs)
     more-digits-requires
     (λ c. search needs) (λ c. search needs)
-    add-result
-    add-result-2
-    add-result-3
-    returns
-    returns-2)
+    one-more
+    up-fits
+    down-fits
+    rounded-up
+    rounded-down)

@@ -12,30 +12,6 @@ use Rattle.planes.proofs.plane_at.Tie as tie
 room : (c : tie.Start) → c .args .k * 4 + 3 < length (c .args .planes .now)
 room c = omega (arith, length-fours (c .args .planes .now))
 
-mul-i : tie.Need-mul-i
-mul-i c = let start : tie.Start = search in omega (arith, room start)
-
-num-requires : tie.Need-num-requires
-num-requires c κs = let start : tie.Start = search in omega (arith, room start)
-
-add-num : tie.Need-add-num
-add-num c = let start : tie.Start = search in omega (arith, room start)
-
-num-requires-2 : tie.Need-num-requires-2
-num-requires-2 c κs = let start : tie.Start = search in omega (arith, room start)
-
-add-num-2 : tie.Need-add-num-2
-add-num-2 c = let start : tie.Start = search in omega (arith, room start)
-
-num-requires-3 : tie.Need-num-requires-3
-num-requires-3 c κs = let start : tie.Start = search in omega (arith, room start)
-
-add-num-3 : tie.Need-add-num-3
-add-num-3 c = let start : tie.Start = search in omega (arith, room start)
-
-num-requires-4 : tie.Need-num-requires-4
-num-requires-4 c κs = let start : tie.Start = search in omega (arith, room start)
-
 returns : tie.Need-returns
 returns c =
     let start : tie.Start = search in
@@ -46,12 +22,12 @@ pub plane-at-spec : {M : Type 1} → statement M
 plane-at-spec =
     tie.close
     (tie.spec
-    mul-i
-    num-requires
-    add-num
-    num-requires-2
-    add-num-2
-    num-requires-3
-    add-num-3
-    num-requires-4
+    (λ c. omega (arith, room search))
+    (λ c κs. omega (arith, room search))
+    (λ c. omega (arith, room search))
+    (λ c κs. omega (arith, room search))
+    (λ c. omega (arith, room search))
+    (λ c κs. omega (arith, room search))
+    (λ c. omega (arith, room search))
+    (λ c κs. omega (arith, room search))
     returns)

@@ -12,42 +12,6 @@ use Rattle.planes.proofs.put_plane.Tie as tie
 room : (c : tie.Start) → c .args .k * 4 + 3 < length (c .args .out .now)
 room c = omega (arith, length-fours (c .args .out .now))
 
-mul-i : tie.Need-mul-i
-mul-i c = let start : tie.Start = search in omega (arith, room start)
-
-mul-out : tie.Need-mul-out
-mul-out c = let start : tie.Start = search in omega (arith, room start)
-
-slice-write-out : tie.Need-slice-write-out
-slice-write-out c = let start : tie.Start = search in omega (arith, room start)
-
-add-out : tie.Need-add-out
-add-out c = let start : tie.Start = search in omega (arith, room start)
-
-mul-out-2 : tie.Need-mul-out-2
-mul-out-2 c = let start : tie.Start = search in omega (arith, room start)
-
-slice-write-out-2 : tie.Need-slice-write-out-2
-slice-write-out-2 c = let start : tie.Start = search in simp length-set (omega (arith, room start))
-
-add-out-2 : tie.Need-add-out-2
-add-out-2 c = let start : tie.Start = search in omega (arith, room start)
-
-mul-out-3 : tie.Need-mul-out-3
-mul-out-3 c = let start : tie.Start = search in omega (arith, room start)
-
-slice-write-out-3 : tie.Need-slice-write-out-3
-slice-write-out-3 c = let start : tie.Start = search in simp length-set (omega (arith, room start))
-
-add-out-3 : tie.Need-add-out-3
-add-out-3 c = let start : tie.Start = search in omega (arith, room start)
-
-mul-out-4 : tie.Need-mul-out-4
-mul-out-4 c = let start : tie.Start = search in omega (arith, room start)
-
-slice-write-out-4 : tie.Need-slice-write-out-4
-slice-write-out-4 c = let start : tie.Start = search in simp length-set (omega (arith, room start))
-
 returns : tie.Need-returns
 returns c =
     let start : tie.Start = search in
@@ -58,20 +22,20 @@ pub put-plane-spec : {M : Type 1} → statement M
 put-plane-spec =
     tie.close
     (tie.spec
-    mul-i
+    (λ c. omega (arith, room search))
     (λ c. search needs)
-    mul-out
-    slice-write-out
+    (λ c. omega (arith, room search))
+    (λ c. omega (arith, room search))
     (λ c. search needs)
-    add-out
-    mul-out-2
-    slice-write-out-2
+    (λ c. omega (arith, room search))
+    (λ c. omega (arith, room search))
+    (λ c. simp length-set (omega (arith, room search)))
     (λ c. search needs)
-    add-out-2
-    mul-out-3
-    slice-write-out-3
-    add-out-3
-    mul-out-4
-    slice-write-out-4
+    (λ c. omega (arith, room search))
+    (λ c. omega (arith, room search))
+    (λ c. simp length-set (omega (arith, room search)))
+    (λ c. omega (arith, room search))
+    (λ c. omega (arith, room search))
+    (λ c. simp length-set (omega (arith, room search)))
     (λ c. search needs)
     returns)

@@ -6,23 +6,23 @@ use borrow.Author.Needs.{needs}
 use Rattle.flat.proofs.widen3.Statement.{statement}
 use Rattle.flat.proofs.widen3.Tie as tie
 
-lesser-requires : tie.Need-lesser-requires
-lesser-requires c κs = let start : tie.Start = search in start .pre .low 0 (omega arith)
+low-x : tie.Need-lesser-requires
+low-x c κs = let start : tie.Start = search in start .pre .low 0 (omega arith)
 
-lesser-requires-2 : tie.Need-lesser-requires-2
-lesser-requires-2 c κs = let start : tie.Start = search in start .pre .low 1 (omega arith)
+low-y : tie.Need-lesser-requires-2
+low-y c κs = let start : tie.Start = search in start .pre .low 1 (omega arith)
 
-lesser-requires-3 : tie.Need-lesser-requires-3
-lesser-requires-3 c κs = let start : tie.Start = search in start .pre .low 2 (omega arith)
+low-z : tie.Need-lesser-requires-3
+low-z c κs = let start : tie.Start = search in start .pre .low 2 (omega arith)
 
-greater-requires : tie.Need-greater-requires
-greater-requires c κs = let start : tie.Start = search in start .pre .high 0 (omega arith)
+high-x : tie.Need-greater-requires
+high-x c κs = let start : tie.Start = search in start .pre .high 0 (omega arith)
 
-greater-requires-2 : tie.Need-greater-requires-2
-greater-requires-2 c κs = let start : tie.Start = search in start .pre .high 1 (omega arith)
+high-y : tie.Need-greater-requires-2
+high-y c κs = let start : tie.Start = search in start .pre .high 1 (omega arith)
 
-greater-requires-3 : tie.Need-greater-requires-3
-greater-requires-3 c κs = let start : tie.Start = search in start .pre .high 2 (omega arith)
+high-z : tie.Need-greater-requires-3
+high-z c κs = let start : tie.Start = search in start .pre .high 2 (omega arith)
 
 returns : tie.Need-returns
 unfolding widenOf
@@ -30,12 +30,12 @@ returns c =
     let x : tie.After-lesser = search in
     let y : tie.After-lesser2 = search in
     let z : tie.After-lesser3 = search in
-    let high-x : tie.After-greater = search in
+    let above : tie.After-greater = search in
     rw (
       ← x .lesser .ensures,
       ← y .lesser2 .ensures,
       ← z .lesser3 .ensures,
-      ← high-x .greater .ensures,
+      ← above .greater .ensures,
       ← c .before .greater2 .ensures,
       ← c .greater3 .ensures,
     )
@@ -48,20 +48,20 @@ widen3-spec =
     (λ c. search needs)
     (λ c. search needs)
     (λ c. search needs)
-    lesser-requires
+    low-x
     (λ c. search needs)
     (λ c. search needs)
-    lesser-requires-2
+    low-y
     (λ c. search needs)
     (λ c. search needs)
-    lesser-requires-3
+    low-z
     (λ c. search needs)
     (λ c. search needs)
-    greater-requires
+    high-x
     (λ c. search needs)
     (λ c. search needs)
-    greater-requires-2
+    high-y
     (λ c. search needs)
     (λ c. search needs)
-    greater-requires-3
+    high-z
     returns)

@@ -6,23 +6,23 @@ use borrow.Author.Needs.{needs}
 use Rattle.outline.proofs.widen2.Statement.{statement}
 use Rattle.outline.proofs.widen2.Tie as tie
 
-lesser-requires : tie.Need-lesser-requires
-lesser-requires c κs =
-    let pre = c .before .before .pre in
-    pre .low 0 (omega arith)
+low-x : tie.Need-lesser-requires
+low-x c κs =
+    let start : tie.Start = search in
+    start .pre .low 0 (omega arith)
 
-lesser-requires-2 : tie.Need-lesser-requires-2
-lesser-requires-2 c κs =
-    let pre = c .before .before .before .pre in
-    pre .low 1 (omega arith)
+low-y : tie.Need-lesser-requires-2
+low-y c κs =
+    let start : tie.Start = search in
+    start .pre .low 1 (omega arith)
 
-greater-requires : tie.Need-greater-requires
-greater-requires c κs =
-    let pre = c .before .before .before .before .pre in
-    pre .high 0 (omega arith)
+high-x : tie.Need-greater-requires
+high-x c κs =
+    let start : tie.Start = search in
+    start .pre .high 0 (omega arith)
 
-greater-requires-2 : tie.Need-greater-requires-2
-greater-requires-2 c κs =
+high-y : tie.Need-greater-requires-2
+high-y c κs =
     let start : tie.Start = search in
     start .pre .high 1 (omega arith)
 
@@ -38,11 +38,11 @@ widen2-spec =
     tie.close
     (tie.spec
     (λ c. search needs) (λ c. search needs) (λ c. search needs) (λ c. search needs)
-    lesser-requires
+    low-x
     (λ c. search needs) (λ c. search needs)
-    lesser-requires-2
+    low-y
     (λ c. search needs) (λ c. search needs)
-    greater-requires
+    high-x
     (λ c. search needs) (λ c. search needs)
-    greater-requires-2
+    high-y
     returns)

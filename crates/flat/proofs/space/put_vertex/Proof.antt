@@ -13,33 +13,6 @@ use Rattle.flat.proofs.space.put_vertex.Tie as tie
 room : (c : tie.Start) → c .args .v * 3 + 2 < length (c .args .coords .now)
 room c = omega (arith, length-threes (c .args .coords .now))
 
-mul-i : tie.Need-mul-i
-mul-i c = omega (arith, room c)
-
-mul-coords : tie.Need-mul-coords
-mul-coords c = omega (arith, room c)
-
-slice-write-coords : tie.Need-slice-write-coords
-slice-write-coords c = omega (arith, room c)
-
-add-coords : tie.Need-add-coords
-add-coords c = omega (arith, room c)
-
-mul-coords-2 : tie.Need-mul-coords-2
-mul-coords-2 c = omega (arith, room c)
-
-slice-write-coords-2 : tie.Need-slice-write-coords-2
-slice-write-coords-2 c = simp length-set (omega (arith, room c))
-
-add-coords-2 : tie.Need-add-coords-2
-add-coords-2 c = omega (arith, room c)
-
-mul-coords-3 : tie.Need-mul-coords-3
-mul-coords-3 c = omega (arith, room c)
-
-slice-write-coords-3 : tie.Need-slice-write-coords-3
-slice-write-coords-3 c = simp length-set (omega (arith, room c))
-
 returns : tie.Need-returns
 returns c =
     let coords = c .args .coords .now in
@@ -50,17 +23,17 @@ pub put-vertex-spec : {M : Type 1} → statement M
 put-vertex-spec =
     tie.close
     (tie.spec
-    mul-i
+    (λ c. omega (arith, room c))
     (λ c. search needs)
-    mul-coords
-    slice-write-coords
+    (λ c. omega (arith, room c))
+    (λ c. omega (arith, room c))
     (λ c. search needs)
-    add-coords
-    mul-coords-2
-    slice-write-coords-2
+    (λ c. omega (arith, room c))
+    (λ c. omega (arith, room c))
+    (λ c. simp length-set (omega (arith, room c)))
     (λ c. search needs)
-    add-coords-2
-    mul-coords-3
-    slice-write-coords-3
+    (λ c. omega (arith, room c))
+    (λ c. omega (arith, room c))
+    (λ c. simp length-set (omega (arith, room c)))
     (λ c. search needs)
     returns)

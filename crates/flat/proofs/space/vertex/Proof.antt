@@ -12,24 +12,6 @@ use Rattle.flat.proofs.space.vertex.Tie as tie
 room : (c : tie.Start) → c .args .v * 3 + 2 < length (c .args .coords .now)
 room c = omega (arith, length-threes (c .args .coords .now))
 
-mul-i : tie.Need-mul-i
-mul-i c = let start : tie.Start = search in omega (arith, room start)
-
-num-requires : tie.Need-num-requires
-num-requires c κs = let start : tie.Start = search in omega (arith, room start)
-
-add-num : tie.Need-add-num
-add-num c = let start : tie.Start = search in omega (arith, room start)
-
-num-requires-2 : tie.Need-num-requires-2
-num-requires-2 c κs = let start : tie.Start = search in omega (arith, room start)
-
-add-num-2 : tie.Need-add-num-2
-add-num-2 c = let start : tie.Start = search in omega (arith, room start)
-
-num-requires-3 : tie.Need-num-requires-3
-num-requires-3 c κs = let start : tie.Start = search in omega (arith, room start)
-
 returns : tie.Need-returns
 returns c =
     let start : tie.Start = search in
@@ -40,10 +22,10 @@ pub vertex-spec : {M : Type 1} → statement M
 vertex-spec =
     tie.close
     (tie.spec
-    mul-i
-    num-requires
-    add-num
-    num-requires-2
-    add-num-2
-    num-requires-3
+    (λ c. omega (arith, room search))
+    (λ c κs. omega (arith, room search))
+    (λ c. omega (arith, room search))
+    (λ c κs. omega (arith, room search))
+    (λ c. omega (arith, room search))
+    (λ c κs. omega (arith, room search))
     returns)

@@ -9,41 +9,41 @@ use borrow.Author.Needs.{needs}
 use Rattle.cut.proofs.cut.Statement.{statement}
 use Rattle.cut.proofs.cut.Tie as tie
 
-returns : tie.Need-returns
-returns c = small-shown _ _ _ (c .if1 .taken)
+nothing-cut : tie.Need-returns
+nothing-cut c = small-shown _ _ _ (c .if1 .taken)
 
-slice-aggregate-cut-in : tie.Need-slice-aggregate-cut-in
-slice-aggregate-cut-in c = sym (lent _ 16 (omega arith) .0)
+numbers-16 : tie.Need-slice-aggregate-cut-in
+numbers-16 c = sym (lent _ 16 (omega arith) .0)
 
-slice-aggregate-cut-in-2 : tie.Need-slice-aggregate-cut-in-2
-slice-aggregate-cut-in-2 c = sym (lent _ 16 (omega arith) .1)
+points-16 : tie.Need-slice-aggregate-cut-in-2
+points-16 c = sym (lent _ 16 (omega arith) .1)
 
-cut-in-requires : tie.Need-cut-in-requires
-cut-in-requires c κs =
+cut-in-16 : tie.Need-cut-in-requires
+cut-in-16 c κs =
     let start : tie.Start = search in
     let n = length (start .args .face .now) in
     (start .pre .0, (lent n 16 (omega arith) .0, lent n 16 (omega arith) .1, omega arith, omega arith))
 
-slice-aggregate-cut-in-3 : tie.Need-slice-aggregate-cut-in-3
-slice-aggregate-cut-in-3 c = sym (lent _ 128 (omega arith) .0)
+numbers-128 : tie.Need-slice-aggregate-cut-in-3
+numbers-128 c = sym (lent _ 128 (omega arith) .0)
 
-slice-aggregate-cut-in-4 : tie.Need-slice-aggregate-cut-in-4
-slice-aggregate-cut-in-4 c = sym (lent _ 128 (omega arith) .1)
+points-128 : tie.Need-slice-aggregate-cut-in-4
+points-128 c = sym (lent _ 128 (omega arith) .1)
 
-cut-in-requires-2 : tie.Need-cut-in-requires-2
-cut-in-requires-2 c κs =
+cut-in-128 : tie.Need-cut-in-requires-2
+cut-in-128 c κs =
     let start : tie.Start = search in
     let n = length (start .args .face .now) in
     (start .pre .0, (lent n 128 (omega arith) .0, lent n 128 (omega arith) .1, omega arith, omega arith))
 
-slice-aggregate-cut-in-5 : tie.Need-slice-aggregate-cut-in-5
-slice-aggregate-cut-in-5 c = sym (lent _ 2048 (omega arith) .0)
+numbers-2048 : tie.Need-slice-aggregate-cut-in-5
+numbers-2048 c = sym (lent _ 2048 (omega arith) .0)
 
-slice-aggregate-cut-in-6 : tie.Need-slice-aggregate-cut-in-6
-slice-aggregate-cut-in-6 c = sym (lent _ 2048 (omega arith) .1)
+points-2048 : tie.Need-slice-aggregate-cut-in-6
+points-2048 c = sym (lent _ 2048 (omega arith) .1)
 
-cut-in-requires-3 : tie.Need-cut-in-requires-3
-cut-in-requires-3 c κs =
+cut-in-2048 : tie.Need-cut-in-requires-3
+cut-in-2048 c κs =
     let start : tie.Start = search in
     let n = length (start .args .face .now) in
     (start .pre .0, (lent n 2048 (omega arith) .0, lent n 2048 (omega arith) .1, omega arith, omega arith))
@@ -52,20 +52,20 @@ pub cut-spec : {M : Type 1} → statement M
 cut-spec =
     tie.close
     (tie.spec
-    returns
+    nothing-cut
     (λ c. search needs)
-    slice-aggregate-cut-in
+    numbers-16
     (λ c. search needs)
-    slice-aggregate-cut-in-2
-    cut-in-requires
+    points-16
+    cut-in-16
     (λ c. search needs) (λ c. search needs) (λ c. search needs)
-    slice-aggregate-cut-in-3
+    numbers-128
     (λ c. search needs)
-    slice-aggregate-cut-in-4
-    cut-in-requires-2
+    points-128
+    cut-in-128
     (λ c. search needs) (λ c. search needs) (λ c. search needs)
-    slice-aggregate-cut-in-5
+    numbers-2048
     (λ c. search needs)
-    slice-aggregate-cut-in-6
-    cut-in-requires-3
+    points-2048
+    cut-in-2048
     (λ c. search needs) (λ c. search needs))

@@ -9,15 +9,15 @@ use borrow.Author.Needs.{needs}
 use Rattle.shapes.proofs.wedge_contains.Statement.{statement}
 use Rattle.shapes.proofs.wedge_contains.Tie as tie
 
-contains-requires : tie.Need-contains-requires
+quads-sound : tie.Need-contains-requires
 unfolding tested
-contains-requires c κs =
+quads-sound c κs =
     let laid : tie.After-lay = search in
     shape-sound 18 _ _ _ (laid .lay .kept .0) refl
 
-contains-requires-2 : tie.Need-contains-requires-2
+triangles-sound : tie.Need-contains-requires-2
 unfolding tested
-contains-requires-2 c κs =
+triangles-sound c κs =
     let laid : tie.After-lay = search in
     shape-sound 18 _ _ _ (laid .lay .kept .0) refl
 
@@ -38,9 +38,9 @@ wedge-contains-spec =
     (λ c. search needs)
     (λ c. search needs)
     (λ c. search needs)
-    contains-requires
+    quads-sound
     (λ c. search needs)
     (λ c. search needs)
     (λ c. search needs)
-    contains-requires-2
+    triangles-sound
     returns)

@@ -1,6 +1,6 @@
 -- The loops of specs/Loops.antt and specs/Ring.antt, each by its start, its next place and its end, for the proof of every function that
 -- loops over a list. An invariant is one record that says: what is left of the list makes, with the state, the whole.
-use mathlib.Core.Path.{_≡_, refl, sym, _∙_, ap}
+use mathlib.Core.Path.{_≡_, refl, sym, _∙_}
 use mathlib.Core.Logic.{⊎-elim}
 use mathlib.Core.Bool.{Bool, true, false, _||_, cond}
 use mathlib.Core.List.{List, [], _∷_, _++_}

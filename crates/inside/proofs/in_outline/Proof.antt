@@ -1,10 +1,9 @@
 -- `inside::in_outline` meets its contract: the loop keeps the corner that it came from, and the sides still to walk make, with the answer
 -- so far, the whole (`Walking`); no corners have no side.
-use mathlib.Core.Path.{_≡_, refl, sym, _∙_}
+use mathlib.Core.Path.{refl, sym, _∙_}
 use Prim.Native.Nat.{_-_}
 use native.Mathlib.Omega.{arith}
 use mathlib.Core.List.{[]}
-use lib.ListN.{length}
 use Rattle.flat.specs.Points.{verticesOf}
 use Rattle.flat.specs.Flat.{pointsOf}
 use Rattle.inside.specs.Ray.{passSide, inOutline}

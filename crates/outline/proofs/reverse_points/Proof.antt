@@ -1,7 +1,7 @@
 -- `outline::reverse_points` meets its contract: the swaps that are left make the reversed list, and at the middle none is left; each swap
 -- keeps the number over.
 use mathlib.Core.Path.{_≡_, refl, sym, _∙_}
-use Prim.Native.Nat.{_-_, _/_}
+use Prim.Native.Nat.{_-_}
 use lib.ListN.{length}
 use mathlib.Core.List.{[], reverse}
 use native.Mathlib.Omega.{arith}

@@ -1,9 +1,8 @@
 -- `outline::vertex_centroid2` meets its contract: s is the sum of the points before place i, and those that are left make it that of all;
 -- they are at most 512, so their count fits 16 bits.
 use mathlib.Core.Path.{_≡_, refl, sym}
-use Prim.Native.Nat.{_-_, _≤_}
+use Prim.Native.Nat.{_-_}
 use lib.ListN.{length}
-use native.Mathlib.Omega.{arith}
 use Rattle.places.specs.Loops.{foldList}
 use Rattle.places.specs.Stored.{inPairs}
 use Rattle.places.proofs.Loops.{Taking, take-start, take-next, take-end}

@@ -1,8 +1,7 @@
 -- `outward::any_parts` meets its contract: each pass asks the face between two ends and leaves at the first that parts the vertices, as
 -- `anyOf` does over the faces (`FaceAsking`).
-use mathlib.Core.Path.{_≡_, refl}
+use mathlib.Core.Path.{refl}
 use Prim.Native.Nat.{_-_}
-use lib.ListN.{length}
 use Rattle.places.specs.Loops.{anyOf}
 use Rattle.places.proofs.Lists.{each-slice}
 use Rattle.flat.specs.Points.{verticesOf}

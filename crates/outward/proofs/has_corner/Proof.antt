@@ -1,8 +1,7 @@
 -- `outward::has_corner` meets its contract: each pass leaves if the corner is v, as `anyOf` does (`Asking`), and at the end no corner was.
-use mathlib.Core.Path.{_≡_, refl, sym, _∙_}
+use mathlib.Core.Path.{refl, sym, _∙_}
 use Prim.Native.Nat.{_-_}
 use lib.Dec.{eqb}
-use lib.ListN.{length}
 use borrow.Author.Tests.{eq-eqb, ne-eqb}
 use Rattle.places.proofs.Loops.{Asking, ask-start, ask-yes, ask-no, ask-end}
 use Rattle.outward.specs.Convexity.{hasCorner}

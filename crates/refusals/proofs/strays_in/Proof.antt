@@ -1,8 +1,6 @@
 -- `refusals::strays_in` meets its contract: each pass joins the test of one entry to `any` by an or, and such an or over the whole list is
 -- `anyOf` (`any-taken`).
-use mathlib.Core.Path.{_≡_, refl}
 use Prim.Native.Nat.{_-_}
-use lib.ListN.{length}
 use Rattle.places.specs.Loops.{anyOf}
 use Rattle.places.proofs.Loops.{Taking, take-start, take-next, take-end, orTest, any-taken}
 use Rattle.refusals.specs.Refusals.{strays}

@@ -1,9 +1,7 @@
 -- `shapes::lay` meets its contract: each pass puts one point in its place, so that with the points from i on the list has them all
 -- (`Laying`), and at the end it does.
-use mathlib.Core.Path.{_≡_, refl}
 use Prim.Native.Nat.{_-_}
 use native.Mathlib.Omega.{arith}
-use lib.ListN.{length}
 use Rattle.places.proofs.Stored.{length-threes}
 use Rattle.shapes.proofs.Laying.{Laying, lay-start, lay-next, lay-end}
 use borrow.Author.Needs.{needs}

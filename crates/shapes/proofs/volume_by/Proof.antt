@@ -1,9 +1,8 @@
 -- `shapes::volume_by` meets its contract: each pass adds the volume of one row, so the rows that are left make, with the sum so far, the
 -- whole sum (`Taking`).
-use mathlib.Core.Path.{_≡_, refl}
+use mathlib.Core.Path.{refl}
 use mathlib.Core.List.{[]}
 use Prim.Native.Nat.{_-_}
-use lib.ListN.{length}
 use Rattle.places.proofs.Loops.{Taking, take-start, take-next, take-end}
 use Rattle.shapes.specs.Shapes.{addTet, volumeBy}
 use borrow.Author.Needs.{needs}

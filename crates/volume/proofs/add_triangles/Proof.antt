@@ -1,9 +1,8 @@
 -- `volume::add_triangles` meets its contract: each pass adds one triple product, so the triangles that are left make, with the sum so far,
 -- the whole (`Taking`).
-use mathlib.Core.Path.{_≡_, refl}
+use mathlib.Core.Path.{refl}
 use mathlib.Core.List.{[]}
 use Prim.Native.Nat.{_-_}
-use lib.ListN.{length}
 use Rattle.places.specs.Loops.{foldList}
 use Rattle.places.proofs.Loops.{Taking, take-start, take-next, take-end}
 use Rattle.flat.specs.Points.{verticesOf}

@@ -4,7 +4,6 @@ use mathlib.Core.Path.{refl}
 use mathlib.Core.List.{[]}
 use Prim.Native.Nat.{_-_}
 use native.Mathlib.Omega.{arith}
-use lib.ListN.{length}
 use Rattle.places.proofs.Walks.{Walking, walk-start, walk-next, walk-end}
 use Rattle.flat.specs.Points.{verticesOf, cornersOf}
 use Rattle.flat.specs.Flat.{newellSide, newellOf}

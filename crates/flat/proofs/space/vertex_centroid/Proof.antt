@@ -1,9 +1,8 @@
 -- `flat::space::vertex_centroid` meets its contract: each pass adds one point, so the points that are left make, with the sum so far, the
 -- whole (`Taking`); at most 256 points fit the count.
 use mathlib.Core.Path.{_≡_, refl, sym}
-use Prim.Native.Nat.{_-_, _≤_}
+use Prim.Native.Nat.{_-_}
 use lib.ListN.{length}
-use native.Mathlib.Omega.{arith}
 use Rattle.places.specs.Loops.{foldList}
 use Rattle.places.proofs.Loops.{Taking, take-start, take-next, take-end}
 use Rattle.places.proofs.Stored.{length-threes}

@@ -1,8 +1,7 @@
 -- `cell::empty_refused` meets its contract: the face from one end to the next is empty exactly where the two are equal, and no face before
 -- k was.
-use mathlib.Core.Path.{_≡_, refl}
+use mathlib.Core.Path.{refl}
 use Prim.Native.Nat.{_-_}
-use lib.ListN.{length}
 use Rattle.cell.specs.Refusals.{isEmpty, emptyRefused}
 use Rattle.cell.proofs.Faces.{FaceAsking, faces-start, faces-step, faces-yes, faces-no, faces-end}
 use Rattle.cell.proofs.Refusals.{empty-yes, empty-no}
@@ -23,7 +22,6 @@ loop-holds c =
     faces-start (start .pre) refl
 
 one-empty : tie.Need-returns Inv-loop μ-loop
-unfolding emptyRefused
 one-empty c =
     let corner = c .before .corner in
     let record { before = _; loop = loop } : tie.At-loop Inv-loop μ-loop = search in
@@ -32,7 +30,6 @@ one-empty c =
     (empty-yes (loop .start) (corner .result) (start .args .corners .now) (search needs))
 
 loop-again : tie.Need-loop-again Inv-loop μ-loop
-unfolding emptyRefused
 loop-again c =
     let corner = c .before .corner in
     let record { before = _; loop = loop } : tie.At-loop Inv-loop μ-loop = search in
@@ -42,11 +39,9 @@ loop-again c =
     (empty-no (loop .start) (corner .result) (start .args .corners .now) (step .from) (step .upto) (c .if1 .left))
 
 none-empty : tie.Need-returns-2 Inv-loop μ-loop
-unfolding emptyRefused
 none-empty c = faces-end (c .before .loop .inv) (search needs)
 
 pub empty-refused-spec : {M : Type 1} → statement M
-unfolding emptyRefused
 empty-refused-spec =
     tie.close
     (tie.spec

@@ -1,5 +1,5 @@
 -- `cell::ends_refused` meets its contract: `fall` says whether an end before k falls, and with the ends from k on that is the definition.
-use mathlib.Core.Path.{_≡_, refl}
+use mathlib.Core.Path.{refl}
 use Prim.Native.Nat.{_-_, _<_}
 use native.Mathlib.Omega.{arith}
 use lib.ListN.{length}
@@ -21,24 +21,20 @@ unfolding endsRefused
 loop-holds c = (search needs, falls-start refl)
 
 loop-again : tie.Need-loop-again Inv-loop μ-loop
-unfolding endsRefused
 loop-again c =
     let stored = c .before .stored in
     let record { before = _; loop = loop } : tie.At-loop Inv-loop μ-loop = search in
     (stored .ensures .1, falls-next (loop .inv .1) (search needs) (stored .ensures .0) (c .one-or-both .ensures))
 
-cast-one-or-both : tie.Need-cast-one-or-both Inv-loop μ-loop
-unfolding endsRefused
-cast-one-or-both c = omega (arith, c .before .loop .inv .0)
+start-fits : tie.Need-cast-one-or-both Inv-loop μ-loop
+start-fits c = omega (arith, c .before .loop .inv .0)
 
 returns : tie.Need-returns Inv-loop μ-loop
-unfolding endsRefused
 returns c =
     let record { before = _; loop = loop } : tie.At-loop Inv-loop μ-loop = search in
     falls-end (loop .inv .1) (search needs) (c .one-or-both2 .ensures)
 
 pub ends-refused-spec : {M : Type 1} → statement M
-unfolding endsRefused
 ends-refused-spec =
     tie.close
     (tie.spec
@@ -47,6 +43,6 @@ ends-refused-spec =
     loop-holds
     (λ c κs. search needs) (λ c κs. search needs) (λ c. search needs) (λ c. search needs)
     loop-again
-    cast-one-or-both
+    start-fits
     (λ c κs. search needs)
     returns)

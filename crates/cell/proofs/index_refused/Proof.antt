@@ -1,7 +1,5 @@
 -- `cell::index_refused` meets its contract: after i turns `refused` says whether one of the first i numbers is not below n.
-use mathlib.Core.Path.{_≡_, refl}
 use Prim.Native.Nat.{_-_}
-use lib.ListN.{length}
 use Rattle.places.proofs.Loops.{Taking, take-start, take-next, take-end, orTest, any-taken}
 use Rattle.cell.specs.Refusals.{notBelow, indexRefused}
 use borrow.Author.Needs.{needs}
@@ -19,17 +17,14 @@ unfolding indexRefused
 loop-holds c = take-start (any-taken (notBelow _) _)
 
 loop-again : tie.Need-loop-again Inv-loop μ-loop
-unfolding indexRefused
 loop-again c =
     let record { before = _; loop = loop } : tie.At-loop Inv-loop μ-loop = search in
     take-next 0 (loop .inv) (search needs) (cc)
 
 returns : tie.Need-returns Inv-loop μ-loop
-unfolding indexRefused
 returns c = take-end (c .before .loop .inv) (search needs)
 
 pub index-refused-spec : {M : Type 1} → statement M
-unfolding indexRefused
 index-refused-spec =
     tie.close
     (tie.spec

@@ -1,7 +1,5 @@
 -- `cell::number_refused` meets its contract: after i turns `refused` says whether one of the first i numbers is out of range.
-use mathlib.Core.Path.{_≡_, refl}
 use Prim.Native.Nat.{_-_}
-use lib.ListN.{length}
 use lib.Ieee.{nan}
 use Rattle.places.proofs.Loops.{Taking, take-start, take-next, take-end, orTest, any-taken}
 use Rattle.cell.specs.Refusals.{outOfRange, numberRefused}
@@ -20,17 +18,14 @@ unfolding numberRefused
 loop-holds c = take-start (any-taken outOfRange _)
 
 loop-again : tie.Need-loop-again Inv-loop μ-loop
-unfolding numberRefused
 loop-again c =
     let record { before = _; loop = loop } : tie.At-loop Inv-loop μ-loop = search in
     take-next nan (loop .inv) (search needs) (cc)
 
 returns : tie.Need-returns Inv-loop μ-loop
-unfolding numberRefused
 returns c = take-end (c .before .loop .inv) (search needs)
 
 pub number-refused-spec : {M : Type 1} → statement M
-unfolding numberRefused
 number-refused-spec =
     tie.close
     (tie.spec

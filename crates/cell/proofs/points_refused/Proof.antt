@@ -4,19 +4,19 @@ use borrow.Author.Needs.{needs}
 use Rattle.cell.proofs.points_refused.Statement.{statement}
 use Rattle.cell.proofs.points_refused.Tie as tie
 
-parts-of-three : tie.Need-returns
-parts-of-three c = not-in-threes _ (c .if1 .taken)
+number-over : tie.Need-returns
+number-over c = not-in-threes _ (c .if1 .taken)
 
-none : tie.Need-returns-2
-none c = no-vertex _ (c .if2 .taken)
+no-points : tie.Need-returns-2
+no-points c = no-vertex _ (c .if2 .taken)
 
-some : tie.Need-returns-3
-some c = some-vertices _ (search needs) (c .if2 .left)
+some-points : tie.Need-returns-3
+some-points c = some-vertices _ (search needs) (c .if2 .left)
 
 pub points-refused-spec : {M : Type 1} → statement M
 points-refused-spec =
     tie.close
     (tie.spec
-    parts-of-three
-    none
-    some)
+    number-over
+    no-points
+    some-points)

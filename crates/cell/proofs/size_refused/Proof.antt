@@ -22,7 +22,6 @@ few-faces c =
     rw (← points-refused .ensures, c .before .if1 .left, le-ltb _ _ (c .if2 .left))
 
 pub size-refused-spec : {M : Type 1} → statement M
-unfolding sizeRefused
 size-refused-spec =
     tie.close
     (tie.spec

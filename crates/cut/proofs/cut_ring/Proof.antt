@@ -2,6 +2,7 @@
 -- whole cut; each step keeps that, until no corner can be cut or three are left.
 use Rattle.flat.specs.Points.{verticesOf}
 use mathlib.Core.Path.{refl, sym, _∙_}
+use Prim.Native.Nat.{_≤_}
 use native.Mathlib.Omega.{arith}
 use lib.ListN.{length}
 use lib.Seq.{length-take-le, length-front}
@@ -28,23 +29,9 @@ loop-holds c =
     start (verticesOf (args .coords .now)) (args .axis) (args .ns .now) _ (args .out .now) _ (pre .1 .1) (pre .1 .2)
     (fill-points .ensures) (c .direction .ensures)
 
-ring-in-list : tie.Need-slice-relend-prefix-step Inv-loop μ-loop
-ring-in-list c = omega (arith, c .before .loop .inv)
-
-ring-many : tie.Need-slice-aggregate-step Inv-loop μ-loop
-ring-many c =
-    let at : tie.At-loop Inv-loop μ-loop = search in
-    sym (length-take-le _ _ (omega (arith, at .loop .inv)))
-
-points-in-list : tie.Need-slice-relend-prefix-step-2 Inv-loop μ-loop
-points-in-list c =
-    let at : tie.At-loop Inv-loop μ-loop = search in
-    omega (arith, at .loop .inv)
-
-points-many : tie.Need-slice-aggregate-step-2 Inv-loop μ-loop
-points-many c =
-    let at : tie.At-loop Inv-loop μ-loop = search in
-    sym (length-take-le _ _ (omega (arith, at .loop .inv)))
+-- the ring has three corners at least, and its m corners and points are in their lists
+sizes : (c : tie.At-loop Inv-loop μ-loop) → (3 ≤ c .loop .m) × (c .loop .m ≤ length (c .loop .ns)) × (c .loop .m ≤ length (c .loop .ps))
+sizes c = let going = c .loop .inv in (going .low, omega (arith, going), omega (arith, going))
 
 step-requires : tie.Need-step-requires Inv-loop μ-loop
 step-requires c κs =
@@ -78,21 +65,11 @@ stuck c =
     let n = step-no (step .ensures) (not-true _ (c .if1 .taken)) in
     stop (loop .inv) _ (loop-test .taken) (n .0) (n .1)
 
-one-less : tie.Need-sub-m Inv-loop μ-loop
-one-less c =
-    let at : tie.At-loop Inv-loop μ-loop = search in
-    omega (arith, at .loop .inv)
-
 one-more : tie.Need-add-t Inv-loop μ-loop
 one-more c =
     let at : tie.At-loop Inv-loop μ-loop = search in
     let at-start : tie.Start Inv-loop μ-loop = search in
     omega (arith, at .loop .inv, at-start .good)
-
-loop-less : tie.Need-loop-less Inv-loop μ-loop
-loop-less c =
-    let at : tie.At-loop Inv-loop μ-loop = search in
-    omega (arith, at .loop .inv)
 
 loop-again : tie.Need-loop-again Inv-loop μ-loop
 loop-again c =
@@ -102,21 +79,6 @@ loop-again c =
     let y = step-yes (step .ensures) (not-false _ (c .if1 .left)) in
     again (loop .inv) (y .0) _ _ _ (loop-test .taken) (y .1) (y .2) (y .3) (y .4) (step .kept .0) (step .kept .1 .0)
     (step .kept .1 .1 .1 .0)
-
-first-there : tie.Need-slice-read-t26 Inv-loop μ-loop
-first-there c =
-    let at : tie.At-loop Inv-loop μ-loop = search in
-    omega (arith, at .loop .inv)
-
-second-there : tie.Need-slice-read-t28 Inv-loop μ-loop
-second-there c =
-    let at : tie.At-loop Inv-loop μ-loop = search in
-    omega (arith, at .loop .inv)
-
-third-there : tie.Need-slice-read-t30 Inv-loop μ-loop
-third-there c =
-    let at : tie.At-loop Inv-loop μ-loop = search in
-    omega (arith, at .loop .inv)
 
 last-counted : tie.Need-add-t31 Inv-loop μ-loop
 last-counted c =
@@ -138,22 +100,22 @@ cut-ring-spec =
     μ-loop
     (λ c κs. search needs) (λ c κs. search needs)
     loop-holds
-    ring-in-list
-    ring-many
-    points-in-list
-    points-many
+    (λ c. omega (arith, sizes search))
+    (λ c. sym (length-take-le _ _ (omega (arith, sizes search))))
+    (λ c. omega (arith, sizes search))
+    (λ c. sym (length-take-le _ _ (omega (arith, sizes search))))
     step-requires
     same-ring
     same-points
     same-triangles
     stuck
-    one-less
+    (λ c. omega (arith, sizes search))
     one-more
-    loop-less
+    (λ c. omega (arith, sizes search))
     loop-again
-    first-there
-    second-there
-    third-there
+    (λ c. omega (arith, sizes search))
+    (λ c. omega (arith, sizes search))
+    (λ c. omega (arith, sizes search))
     (λ c. search needs) (λ c. search needs)
     last-counted
     (λ c. search needs) (λ c. search needs) (λ c. search needs)

@@ -1,8 +1,8 @@
 -- `cut::fill_numbers` meets its contract: the face's numbers stored at the places from i on make the list the whole face.
-use mathlib.Core.Path.{_≡_, refl}
+use mathlib.Core.Path.{refl}
 use Prim.Native.Nat.{_-_}
 use native.Mathlib.Omega.{arith}
-use lib.ListN.{length, getD}
+use lib.ListN.{getD}
 use Rattle.places.proofs.Folding.{fold-start}
 use Rattle.places.proofs.Lists.{fill-copy}
 use Rattle.cut.proofs.Storing.{Storing, store-next, store-end}

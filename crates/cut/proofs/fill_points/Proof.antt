@@ -1,10 +1,9 @@
 -- `cut::fill_points` meets its contract: the points of the ring's corners stored at the places from i on make the list that of all its
 -- points.
 use Rattle.flat.specs.Points.{verticesOf}
-use mathlib.Core.Path.{_≡_, refl}
 use Prim.Native.Nat.{_-_}
 use native.Mathlib.Omega.{arith}
-use lib.ListN.{length, getD}
+use lib.ListN.{getD}
 use Rattle.flat.specs.Flat.{pointOf, pointsOf}
 use Rattle.places.proofs.Folding.{fold-start}
 use Rattle.places.proofs.Lists.{fill-map}
@@ -15,8 +14,8 @@ use Rattle.cut.proofs.fill_points.Tie as tie
 
 abbrev Inv-loop : tie.InvT-loop
 Inv-loop coords ring axis ps₀ n i₀ ps i =
-    let at = pointOf (verticesOf coords) axis in
-    Storing (λ k s. at (getD ring k 0)) n n (pointsOf (verticesOf coords) axis ring) i ps
+    let point = pointOf (verticesOf coords) axis in
+    Storing (λ k s. point (getD ring k 0)) n n (pointsOf (verticesOf coords) axis ring) i ps
 
 abbrev μ-loop : tie.MeasureT-loop
 μ-loop coords ring axis ps₀ n i₀ ps i = n - i
@@ -26,8 +25,8 @@ unfolding pointsOf
 loop-holds c =
     let start : tie.Start Inv-loop μ-loop = search in
     let args = start .args in
-    let pointAt = pointOf (verticesOf (args .coords .now)) (args .axis) in
-    record { long = start .pre .1; folding = fold-start (fill-map 0 pointAt (args .ring .now) _ (start .pre .1)) }
+    let point = pointOf (verticesOf (args .coords .now)) (args .axis) in
+    record { long = start .pre .1; folding = fold-start (fill-map 0 point (args .ring .now) _ (start .pre .1)) }
 
 loop-again : tie.Need-loop-again Inv-loop μ-loop
 loop-again c = store-next (c .before .before .loop .inv) (omega arith) (cc)

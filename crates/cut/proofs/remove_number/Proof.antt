@@ -1,8 +1,7 @@
 -- `cut::remove_number` meets its contract: what stands one place further right, stored at the places from j up to the last, makes the list
 -- without place k.
-use mathlib.Core.Path.{_≡_, refl}
-use Prim.Native.Nat.{_-_, _+_}
-use lib.ListN.{length}
+use mathlib.Core.Path.{refl}
+use Prim.Native.Nat.{_-_}
 use native.Mathlib.Omega.{arith}
 use Rattle.cut.proofs.Storing.{Removing, remove-start, store-next, store-end}
 use borrow.Author.Needs.{needs}

@@ -17,8 +17,8 @@ held c = holds (c .good .0 .1)
 of-nan : tie.Need-returns
 of-nan c = root-of-nan (c .before .args .x) (c .if1 .taken)
 
-float-to-bits-b : tie.Need-float-to-bits-b
-float-to-bits-b c = no-nan (c .before .args .x) (c .if1 .left)
+not-nan : tie.Need-float-to-bits-b
+not-nan c = no-nan (c .before .args .x) (c .if1 .left)
 
 of-zero : tie.Need-returns-2
 of-zero c =
@@ -53,8 +53,8 @@ root-pattern-requires c κs =
     let finite : b ≤ 0x7ff0_0000_0000_0000 = at-most-infinity (args .x) (held start) (no-nan (args .x) (if1 .left)) below-sign in
     omega (arith, c .if5 .left, if2 .left)
 
-float-from-bits-result : tie.Need-float-from-bits-result
-float-from-bits-result c = fails (c .root-pattern .ensures .no-nan)
+answer-not-nan : tie.Need-float-from-bits-result
+answer-not-nan c = fails (c .root-pattern .ensures .no-nan)
 
 of-positive : tie.Need-returns-6
 of-positive c =
@@ -66,11 +66,11 @@ root-spec =
     tie.close
     (tie.spec
     of-nan
-    float-to-bits-b
+    not-nan
     of-zero
     of-minus-zero
     of-negative
     of-infinity
     root-pattern-requires
-    float-from-bits-result
+    answer-not-nan
     of-positive)

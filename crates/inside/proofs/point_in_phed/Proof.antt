@@ -30,33 +30,11 @@ ends c =
 loop-holds : tie.Need-loop-holds Inv-loop μ-loop
 loop-holds c = mark-start
 
-mul-cross-marked : tie.Need-mul-cross-marked Inv-loop μ-loop
-mul-cross-marked c = omega (arith, ends c)
-
-sub-cross-marked : tie.Need-sub-cross-marked Inv-loop μ-loop
-sub-cross-marked c = ends c .0
-
-part-cross-marked-start : tie.Need-part-cross-marked-start Inv-loop μ-loop
-part-cross-marked-start c = ends c .0
-
-part-cross-marked-end : tie.Need-part-cross-marked-end Inv-loop μ-loop
-part-cross-marked-end c = ends c .1
-
 cross-marked-requires : tie.Need-cross-marked-requires Inv-loop μ-loop
 cross-marked-requires c κs =
     let start : tie.Start Inv-loop μ-loop = search in
     let end : tie.After-face-end Inv-loop μ-loop = search in
     inside-marked (verticesOf (start .args .coords .now)) _ _ _ (end .face-end .ensures) (start .pre .0)
-
-add-start : tie.Need-add-start Inv-loop μ-loop
-add-start c =
-    let end : tie.After-face-end Inv-loop μ-loop = search in
-    omega (arith, ends end)
-
-loop-less : tie.Need-loop-less Inv-loop μ-loop
-loop-less c =
-    let end : tie.After-face-end Inv-loop μ-loop = search in
-    omega (arith, ends end)
 
 loop-again : tie.Need-loop-again Inv-loop μ-loop
 loop-again c =
@@ -75,12 +53,12 @@ point-in-phed-spec =
     μ-loop
     loop-holds
     (λ c κs. omega arith)
-    mul-cross-marked
-    sub-cross-marked
-    part-cross-marked-start
-    part-cross-marked-end
+    (λ c. omega (arith, ends c))
+    (λ c. ends c .0)
+    (λ c. ends c .0)
+    (λ c. ends c .1)
     cross-marked-requires
-    add-start
-    loop-less
+    (λ c. omega (arith, ends search))
+    (λ c. omega (arith, ends search))
     loop-again
     returns)

@@ -1,5 +1,4 @@
 -- `outward::into_ccw` meets its contract: each pass turns one stretch, and what it leaves of the list is turned by the next ones.
-use mathlib.Core.Path.{_≡_, refl}
 use Prim.Native.Nat.{_-_}
 use native.Mathlib.Omega.{arith}
 use lib.ListN.{length}
@@ -43,20 +42,14 @@ stretch c =
     let at : tie.At-loop Inv-loop μ-loop = search in
     stretch-step (at .loop .inv) (search needs) (c .corner .ensures .0)
 
-mul-face-outward : tie.Need-mul-face-outward Inv-loop μ-loop
-mul-face-outward c =
+corners-fit : tie.Need-mul-face-outward Inv-loop μ-loop
+corners-fit c =
     let start : tie.Start Inv-loop μ-loop = search in
     let step = stretch c in
     omega (arith, start .pre .0 .few-corners)
 
-sub-face-outward : tie.Need-sub-face-outward Inv-loop μ-loop
-sub-face-outward c = stretch c .from
-
-part-face-outward-start : tie.Need-part-face-outward-start Inv-loop μ-loop
-part-face-outward-start c = stretch c .from
-
-part-face-outward-end : tie.Need-part-face-outward-end Inv-loop μ-loop
-part-face-outward-end c =
+stretch-in-list : tie.Need-part-face-outward-end Inv-loop μ-loop
+stretch-in-list c =
     let at : tie.At-loop Inv-loop μ-loop = search in
     let step = stretch c in
     omega (arith, at .loop .inv .long)
@@ -95,10 +88,10 @@ into-ccw-spec =
     vertex-centroid-requires
     loop-holds
     (λ c κs. search needs)
-    mul-face-outward
-    sub-face-outward
-    part-face-outward-start
-    part-face-outward-end
+    corners-fit
+    (λ c. stretch c .from)
+    (λ c. stretch c .from)
+    stretch-in-list
     face-outward-requires
     (λ c. search needs)
     (λ c. search needs)

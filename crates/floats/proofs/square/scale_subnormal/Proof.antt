@@ -16,26 +16,11 @@ abbrev μ-loop : tie.MeasureT-loop
 few-turns : (c : tie.At-loop Inv-loop μ-loop) → c .loop .d < 27
 few-turns c = few (c .before .args .b) (c .loop .a) (c .loop .d) (c .before .pre .0) (c .loop .inv .1) (c .loop .inv .2)
 
-loop-holds : tie.Need-loop-holds Inv-loop μ-loop
-loop-holds c = omega arith
-
-mul-a : tie.Need-mul-a Inv-loop μ-loop
-mul-a c = omega arith
-
-add-d : tie.Need-add-d Inv-loop μ-loop
-add-d c = omega (arith, few-turns (c .before))
-
-loop-less : tie.Need-loop-less Inv-loop μ-loop
-loop-less c = omega arith
-
 loop-again : tie.Need-loop-again Inv-loop μ-loop
 loop-again c =
     let loop = c .before .loop in
     let args = c .before .before .args in
     (omega arith, omega arith, next-d (args .b) (loop .a) (loop .d) (loop .inv .2))
-
-sub-t5 : tie.Need-sub-t5 Inv-loop μ-loop
-sub-t5 c = omega (arith, few-turns (c .before))
 
 returns : tie.Need-returns Inv-loop μ-loop
 returns c =
@@ -51,10 +36,10 @@ scale-subnormal-spec =
     (tie.spec
     Inv-loop
     μ-loop
-    loop-holds
-    mul-a
-    add-d
-    loop-less
+    (λ c. omega arith)
+    (λ c. omega arith)
+    (λ c. omega (arith, few-turns (c .before)))
+    (λ c. omega arith)
     loop-again
-    sub-t5
+    (λ c. omega (arith, few-turns (c .before)))
     returns)

@@ -18,20 +18,14 @@ abbrev μ-loop : tie.MeasureT-loop
 quotient-le : (c : tie.After-guess Inv-loop μ-loop) → c .before .args .a / c .guess .result ≤ 2 ^ 30
 quotient-le c = div-le-of-le-mul (c .guess .result) (omega arith)
 
-div-r : tie.Need-div-r Inv-loop μ-loop
-div-r c = omega arith
-
-add-r : tie.Need-add-r Inv-loop μ-loop
-add-r c = omega (arith, quotient-le c)
-
 loop-holds : tie.Need-loop-holds Inv-loop μ-loop
 loop-holds c = (newton-above (c .before .args .a) (c .guess .result) (omega arith), omega (arith, quotient-le c))
 
-mul-loop : tie.Need-mul-loop Inv-loop μ-loop
-mul-loop c = record { fits = lt-of-le-of-lt (mul-le-mul (c .loop .inv .1) (c .loop .inv .1)) (lit< tt) }
+square-fits : tie.Need-mul-loop Inv-loop μ-loop
+square-fits c = record { fits = lt-of-le-of-lt (mul-le-mul (c .loop .inv .1) (c .loop .inv .1)) (lit< tt) }
 
-sub-r : tie.Need-sub-r Inv-loop μ-loop
-sub-r c =
+not-zero : tie.Need-sub-r Inv-loop μ-loop
+not-zero c =
     let args = c .before .before .before .args in
     sq-pos (args .a) (c .before .loop .r) (c .loop-test .taken)
 
@@ -55,11 +49,11 @@ whole-root-spec =
     Inv-loop
     μ-loop
     (λ c κs. search needs)
-    div-r
-    add-r
+    (λ c. omega arith)
+    (λ c. omega (arith, quotient-le c))
     loop-holds
-    mul-loop
-    sub-r
+    square-fits
+    not-zero
     loop-less
     loop-again
     returns)

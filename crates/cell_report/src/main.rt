@@ -1,5 +1,5 @@
 // Reads records from standard input and writes the report's lines to standard output. A read or a write that fails is said on standard
-// error, save that a reader who has gone is not told of.
+// error.
 ghost use Prim.Native.Nat.{_+_, _^_, _≤_, _<_};
 ghost use mathlib.Core.Path.{_≡_};
 ghost use lib.ListN.{length, take, drop};
@@ -30,8 +30,7 @@ fn can_try_again() -> bool {
     error == libc::EINTR
 }
 
-// Whether a write that took no byte can be tried again; if not, it is said why, unless the reader has
-// gone.
+// Whether a write that took no byte can be tried again; if not, it is said why.
 fn can_write_again(put: isize) -> bool {
     if put == 0 {
         io::write_all(
@@ -43,9 +42,7 @@ fn can_write_again(put: isize) -> bool {
     if can_try_again() {
         return true;
     }
-    if os::errno() != libc::EPIPE {
-        os::fail(b"cell_report: writing standard output");
-    }
+    os::fail(b"cell_report: writing standard output");
     false
 }
 

@@ -35,9 +35,9 @@ made-is : {room n : ℕ} {c : Change} {l : List Point} → Shows room c (Made n)
 made-is (shows-made h e) = (h, ap made (sym e))
 
 -- ---- the two lists
-pick-not : {A : Type 0} (s : Bool) (x y : A) → cond (not s) y x ≡ cond s x y
-pick-not true x y = refl
-pick-not false x y = refl
+cond-not : {A : Type 0} (s : Bool) (x y : A) → cond (not s) y x ≡ cond s x y
+cond-not true x y = refl
+cond-not false x y = refl
 
 -- both lists keep their lengths
 sizes : {E : Type 0} {room : ℕ} {change : E → List Point → Change} {e : E} {n : ℕ} {second : Bool} {a b : List Point} {r : Step}
@@ -141,7 +141,7 @@ module _ {E : Type 0} {read : List Float → List Point} {room : ℕ} {change : 
               second-long = g ∙ q .second-long;
               first-room = omega (arith, l .0, q .first-room);
               second-room = omega (arith, l .1, q .second-room);
-              so = rw (pick-not second (read a′) (read b′)) (rw (made-is (m .shows) .1) at (next d h at));
+              so = rw (cond-not second (read a′) (read b′)) (rw (made-is (m .shows) .1) at (next d h at));
             }
 
     -- no more to do: the outline that stands is what is left

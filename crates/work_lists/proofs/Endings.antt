@@ -72,17 +72,17 @@ outline-is {o = outline s (p ∷ ps)} {n} {second} {a} {b} q =
     rw (e, f) (ap (outline s) (sym (q .stands)), omega (arith, length-take (length (p ∷ ps)) (cond s b a), ap length (q .stands)))
 
 -- ---- the outline that an answer shows, by the numbers of its list
-pick-of : {A B : Type 0} (f : A → B) (s : Bool) (x y : A) → cond s (f x) (f y) ≡ f (cond s x y)
-pick-of f true x y = refl
-pick-of f false x y = refl
+cond-of : {A B : Type 0} (f : A → B) (s : Bool) (x y : A) → cond s (f x) (f y) ≡ f (cond s x y)
+cond-of f true x y = refl
+cond-of f false x y = refl
 
 module _ {size : ℕ} {read : List Float → List Point} (s : Reads size read) {o : Outcome} {n : ℕ} {second : Bool} {a b : List Float}
     (q : Ended o (Outline n second) (read a) (read b)) where
   pub outline-left : o ≡ outline second (take n (read (cond second b a)))
-  outline-left = rw (pick-of read second b a) at (outline-is q .0)
+  outline-left = rw (cond-of read second b a) at (outline-is q .0)
 
   pub outline-fits : n * size ≤ length (cond second b a)
-  outline-fits = s .fits n (cond second b a) (rw (pick-of read second b a) at (outline-is q .1))
+  outline-fits = s .fits n (cond second b a) (rw (cond-of read second b a) at (outline-is q .1))
 
   pub outline-small : {k : ℕ} → length a ≤ k → length b ≤ k → n * size ≤ k
   outline-small {k} f g = go second outline-fits

@@ -8,51 +8,51 @@ use borrow.Author.Needs.{needs}
 use Rattle.work_lists.proofs.settle_answer.Statement.{statement}
 use Rattle.work_lists.proofs.settle_answer.Tie as tie
 
-mul-settle : tie.Need-mul-settle
-mul-settle c =
-    let r = c .before .before .before .r in
+few-numbers : tie.Need-mul-settle
+few-numbers c =
+    let told : tie.After-r = search in
     let start : tie.Start = search in
     let args = start .args in
+    let r = told .r .given in
     ⊎-elim (λ w. omega arith) (λ w. omega arith)
-    (shows-least (r .given .0 .1 .0) (_*_ (r .given .0 .0) (args .size)) (args .first .now) (args .second .now)
-    (rw (r .given .1) at (start .pre)))
+    (shows-least (r .0 .1 .0) (_*_ (r .0 .0) (args .size)) (args .first .now) (args .second .now) (rw (r .1) at (start .pre)))
 
-settle-requires-2 : tie.Need-settle-requires-2
-settle-requires-2 c κs =
-    let r = c .before .before .before .r in
+list-holds-outline : tie.Need-settle-requires-2
+list-holds-outline c κs =
+    let told : tie.After-r = search in
     let start : tie.Start = search in
     let args = start .args in
-    shows-in (r .given .0 .1 .0) (_*_ (r .given .0 .0) (args .size)) (args .first .now) (args .second .now)
-    (rw (r .given .1) at (start .pre))
+    let r = told .r .given in
+    shows-in (r .0 .1 .0) (_*_ (r .0 .0) (args .size)) (args .first .now) (args .second .now) (rw (r .1) at (start .pre))
 
-returns : tie.Need-returns
-returns c =
-    let settle = c .before .before .before .before .settle in
-    let at-enum-told = c .before .before .before .before .before .before .before .enum-told in
-    rw (at-enum-told .given .1) (settle .ensures)
+nothing-left : tie.Need-returns
+nothing-left c =
+    let told : tie.After-enum-told = search in
+    let settled : tie.After-settle = search in
+    rw (told .enum-told .given .1) (settled .settle .ensures)
 
-returns-2 : tie.Need-returns-2
-returns-2 c =
-    let settle2 = c .before .before .before .before .settle2 in
-    let r = c .before .before .before .before .before .before .before .before .r in
-    rw (r .given .1, of-first, of-second) (settle2 .ensures)
+outline-left : tie.Need-returns-2
+outline-left c =
+    let told : tie.After-r = search in
+    let settled : tie.After-settle2 = search in
+    rw (told .r .given .1, of-first, of-second) (settled .settle2 .ensures)
 
-returns-3 : tie.Need-returns-3
-returns-3 c =
-    let settle3 = c .before .before .before .before .settle3 in
-    let enum-told2 = c .before .before .before .before .before .before .before .enum-told2 in
-    rw (enum-told2 .given .1) (settle3 .ensures)
+no-room : tie.Need-returns-3
+no-room c =
+    let told : tie.After-enum-told2 = search in
+    let settled : tie.After-settle3 = search in
+    rw (told .enum-told2 .given .1) (settled .settle3 .ensures)
 
 pub settle-answer-spec : {M : Type 1} → statement M
 settle-answer-spec =
     tie.close
     (tie.spec
     (λ c. search needs) (λ c κs. search needs) (λ c. search needs)
-    mul-settle
-    settle-requires-2
+    few-numbers
+    list-holds-outline
     (λ c. search needs) (λ c κs. search needs) (λ c. search needs) (λ c. search needs)
-    returns
+    nothing-left
     (λ c. search needs) (λ c. search needs)
-    returns-2
+    outline-left
     (λ c. search needs) (λ c. search needs)
-    returns-3)
+    no-room)

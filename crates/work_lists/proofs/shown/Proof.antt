@@ -5,25 +5,25 @@ use borrow.Author.Needs.{needs}
 use Rattle.work_lists.proofs.shown.Statement.{statement}
 use Rattle.work_lists.proofs.shown.Tie as tie
 
-part-result-end : tie.Need-part-result-end
-part-result-end c = omega (arith, rw (c .if1 .taken) at (c .before .pre))
+second-holds-n : tie.Need-part-result-end
+second-holds-n c = omega (arith, rw (c .if1 .taken) at (c .before .pre))
 
-part-result-end-2 : tie.Need-part-result-end-2
-part-result-end-2 c = omega (arith, rw (c .if1 .left) at (c .before .pre))
+first-holds-n : tie.Need-part-result-end-2
+first-holds-n c = omega (arith, rw (c .if1 .left) at (c .before .pre))
 
-returns : tie.Need-returns
-returns c = simp (sub-zero, c .before .if1 .taken)
+shows-second : tie.Need-returns
+shows-second c = simp (sub-zero, c .before .if1 .taken)
 
-returns-2 : tie.Need-returns-2
-returns-2 c = simp (sub-zero, c .before .if1 .left)
+shows-first : tie.Need-returns-2
+shows-first c = simp (sub-zero, c .before .if1 .left)
 
 pub shown-spec : {M : Type 1} → statement M
 shown-spec =
     tie.close
     (tie.spec
     (λ c. search needs) (λ c. search needs)
-    part-result-end
+    second-holds-n
     (λ c. search needs) (λ c. search needs)
-    part-result-end-2
-    returns
-    returns-2)
+    first-holds-n
+    shows-second
+    shows-first)

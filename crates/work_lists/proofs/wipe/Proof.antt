@@ -10,21 +10,21 @@ use Rattle.work_lists.proofs.wipe.Statement.{statement}
 use Rattle.work_lists.proofs.wipe.Tie as tie
 
 abbrev Inv-loop : tie.InvT-loop
-Inv-loop s₀ from n i₀ s i = (n ≡ length s₀) × (length s ≡ n) × Folding zeroAt n (wiped from s₀) i s
+Inv-loop s₀ from n i₀ s i = (length s ≡ n) × Folding zeroAt n (wiped from s₀) i s
 
 abbrev μ-loop : tie.MeasureT-loop
 μ-loop s₀ from n i₀ s i = n - i
 
 loop-holds : tie.Need-loop-holds Inv-loop μ-loop
-loop-holds c = (refl, refl, wipe-start (c .args .s .now) (c .args .from) (c .pre))
+loop-holds c = (refl, wipe-start (c .args .s .now) (c .args .from) (c .pre))
 
 loop-again : tie.Need-loop-again Inv-loop μ-loop
 loop-again c =
     let loop = c .before .loop in
-    (loop .inv .0, simp length-set (loop .inv .1), fold-next (loop .inv .2) (c .loop-test .taken) refl)
+    (simp length-set (loop .inv .0), fold-next (loop .inv .1) (c .loop-test .taken) refl)
 
 returns : tie.Need-returns Inv-loop μ-loop
-returns c = fold-end (c .before .loop .inv .2) (c .loop-test .left)
+returns c = fold-end (c .before .loop .inv .1) (c .loop-test .left)
 
 pub wipe-spec : {M : Type 1} → statement M
 wipe-spec =

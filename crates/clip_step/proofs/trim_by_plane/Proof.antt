@@ -22,51 +22,50 @@ Inv-loop src dst₀ plane eps n a₀ da₀ m₀ i₀ dst a da m i =
 abbrev μ-loop : tie.MeasureT-loop
 μ-loop src dst₀ plane eps n a₀ da₀ m₀ i₀ dst a da m i = n - i
 
-sub-vertex : tie.Need-sub-vertex Inv-loop μ-loop
-sub-vertex c =
+some-points : tie.Need-sub-vertex Inv-loop μ-loop
+some-points c =
     let args = c .before .before .args in
     omega (arith, length-threes (args .src .now))
 
-vertex-requires : tie.Need-vertex-requires Inv-loop μ-loop
-vertex-requires c κs =
+last-vertex : tie.Need-vertex-requires Inv-loop μ-loop
+last-vertex c κs =
     let args = c .before .before .args in
     omega (arith, length-threes (args .src .now))
 
 loop-holds : tie.Need-loop-holds Inv-loop μ-loop
 loop-holds c =
-    let args = c .before .before .before .before .args in (
-      sym (length-threes (args .src .now)),
+    let start : tie.Start Inv-loop μ-loop = search in
+    let args = start .args in
+    let src = args .src .now in (
+      sym (length-threes src),
       refl,
       c .distance .ensures,
-      trimming-start zero-le
-          (trimmed-last (args .plane) (args .eps) (verticesOf (args .src .now))
-          (rw (length-threes (args .src .now)) (c .before .vertex .ensures))),
+      trimming-start zero-le (trimmed-last (args .plane) (args .eps) (verticesOf src) (rw (length-threes src) (c .before .vertex .ensures))),
     )
 
 emit-requires : tie.Need-emit-requires Inv-loop μ-loop
 emit-requires c κs =
-    let loop = c .before .before .before .before .loop in
+    let at : tie.At-loop Inv-loop μ-loop = search in
     let start : tie.Start Inv-loop μ-loop = search in
-    omega (arith, length-threes (start .args .src .now), loop .inv .3 .few)
+    omega (arith, length-threes (start .args .src .now), at .loop .inv .3 .few)
 
 loop-again : tie.Need-loop-again Inv-loop μ-loop
 loop-again c =
-    let emit = c .before .before .emit in
-    let distance2 = c .before .before .before .before .distance2 in
-    let vertex2 = c .before .before .before .before .before .vertex2 in
-    let loop-test = c .before .before .before .before .before .before .loop-test in
-    let loop = c .before .before .before .before .before .before .before .loop in (
-      loop .inv .0,
-      emit .kept .0 ∙ loop .inv .1,
-      distance2 .ensures,
-      trimming-more (loop .inv .3) (omega (arith, loop .inv .0, loop-test .taken)) (vertex2 .ensures)
-          (rw (loop .inv .2, distance2 .ensures) at (emit .ensures)),
+    let inside : tie.In-loop Inv-loop μ-loop = search in
+    let measured : tie.After-distance2 Inv-loop μ-loop = search in
+    let laid : tie.After-emit Inv-loop μ-loop = search in
+    let inv = inside .before .loop .inv in (
+      inv .0,
+      laid .emit .kept .0 ∙ inv .1,
+      measured .distance2 .ensures,
+      trimming-more (inv .3) (omega (arith, inv .0, inside .loop-test .taken)) (measured .before .vertex2 .ensures)
+          (rw (inv .2, measured .distance2 .ensures) at (laid .emit .ensures)),
     )
 
 returns : tie.Need-returns Inv-loop μ-loop
 returns c =
-    let loop = c .before .loop in
-    trimming-end (loop .inv .3) (omega (arith, loop .inv .0, c .loop-test .left))
+    let inv = c .before .loop .inv in
+    trimming-end (inv .3) (omega (arith, inv .0, c .loop-test .left))
 
 pub trim-by-plane-spec : {M : Type 1} → statement M
 trim-by-plane-spec =
@@ -74,8 +73,8 @@ trim-by-plane-spec =
     (tie.spec
     Inv-loop
     μ-loop
-    sub-vertex
-    vertex-requires
+    some-points
+    last-vertex
     (λ c κs. search needs)
     loop-holds
     (λ c κs. search needs) (λ c κs. search needs)

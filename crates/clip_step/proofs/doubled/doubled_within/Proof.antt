@@ -26,8 +26,8 @@ loop-holds c = (sym (length-threes (c .before .args .s .now)), take-start refl)
 
 loop-again : tie.Need-loop-again Inv-loop μ-loop
 loop-again c =
-    let loop = c .before .before .before .loop in
-    (loop .inv .0, take-next [] (loop .inv .1) (search needs) (cc))
+    let at : tie.At-loop Inv-loop μ-loop = search in
+    (at .loop .inv .0, take-next [] (at .loop .inv .1) (search needs) (cc))
 
 returns : tie.Need-returns Inv-loop μ-loop
 unfolding doubledWithin

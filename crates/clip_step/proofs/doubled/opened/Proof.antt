@@ -9,52 +9,53 @@ use borrow.Author.Needs.{needs}
 use Rattle.clip_step.proofs.doubled.opened.Statement.{statement}
 use Rattle.clip_step.proofs.doubled.opened.Tie as tie
 
-returns : tie.Need-returns
-returns c =
-    let args = c .before .before .args in
-    sym (length-threes (args .s .now)) ∙
-    opened-short (args .eps) (verticesOf (args .s .now)) (omega (arith, length-threes (args .s .now)))
-
-vertex-requires : tie.Need-vertex-requires
-vertex-requires c κs =
-    let args = c .before .before .args in
-    omega (arith, length-threes (args .s .now))
-
-vertex-requires-2 : tie.Need-vertex-requires-2
-vertex-requires-2 c κs =
-    let args = c .before .before .before .args in
-    omega (arith, length-threes (args .s .now))
-
-returns-2 : tie.Need-returns-2
-returns-2 c =
-    let vertex2 = c .before .before .vertex2 in
-    let vertex = c .before .before .before .vertex in
+few-points : tie.Need-returns
+few-points c =
     let start : tie.Start = search in
     let args = start .args in
-    rw (← length-threes (args .s .now))
+    let s = args .s .now in
+    sym (length-threes s) ∙ opened-short (args .eps) (verticesOf s) (omega (arith, length-threes s))
+
+first-vertex : tie.Need-vertex-requires
+first-vertex c κs =
+    let start : tie.Start = search in
+    omega (arith, length-threes (start .args .s .now))
+
+last-vertex : tie.Need-vertex-requires-2
+last-vertex c κs =
+    let start : tie.Start = search in
+    omega (arith, length-threes (start .args .s .now))
+
+last-goes : tie.Need-returns-2
+last-goes c =
+    let start : tie.Start = search in
+    let read : tie.After-vertex2 = search in
+    let args = start .args in
+    let s = args .s .now in
+    rw (← length-threes s)
     (rw (c .if2 .taken) at
-    (opened-long (args .eps) (verticesOf (args .s .now)) (omega (arith, length-threes (args .s .now))) (vertex .ensures)
-    (rw (length-threes (args .s .now)) (vertex2 .ensures)) (c .before .is-near .ensures)))
+    (opened-long (args .eps) (verticesOf s) (omega (arith, length-threes s)) (read .before .vertex .ensures)
+    (rw (length-threes s) (read .vertex2 .ensures)) (c .before .is-near .ensures)))
 
-returns-3 : tie.Need-returns-3
-returns-3 c =
-    let vertex2 = c .before .before .vertex2 in
-    let vertex = c .before .before .before .vertex in
+last-stays : tie.Need-returns-3
+last-stays c =
     let start : tie.Start = search in
+    let read : tie.After-vertex2 = search in
     let args = start .args in
-    rw (← length-threes (args .s .now))
+    let s = args .s .now in
+    rw (← length-threes s)
     (rw (c .if2 .left) at
-    (opened-long (args .eps) (verticesOf (args .s .now)) (omega (arith, length-threes (args .s .now))) (vertex .ensures)
-    (rw (length-threes (args .s .now)) (vertex2 .ensures)) (c .before .is-near .ensures)))
+    (opened-long (args .eps) (verticesOf s) (omega (arith, length-threes s)) (read .before .vertex .ensures)
+    (rw (length-threes s) (read .vertex2 .ensures)) (c .before .is-near .ensures)))
 
 pub opened-spec : {M : Type 1} → statement M
 opened-spec =
     tie.close
     (tie.spec
-    returns
-    vertex-requires
+    few-points
+    first-vertex
     (λ c. search needs)
-    vertex-requires-2
+    last-vertex
     (λ c κs. search needs) (λ c. search needs)
-    returns-2
-    returns-3)
+    last-goes
+    last-stays)

@@ -10,67 +10,59 @@ use borrow.Author.Needs.{needs}
 use Rattle.clip_step.proofs.doubled.remove_consecutive_duplicates.Statement.{statement}
 use Rattle.clip_step.proofs.doubled.remove_consecutive_duplicates.Tie as tie
 
-returns : tie.Need-returns
-returns c =
-    let args = c .before .before .args in
-    none-doubled (verticesOf (args .s .now)) (omega (arith, length-threes (args .s .now)))
+no-point : tie.Need-returns
+no-point c =
+    let start : tie.Start = search in
+    let s = start .args .s .now in
+    none-doubled (verticesOf s) (omega (arith, length-threes s))
 
 space-out-requires : tie.Need-space-out-requires
 space-out-requires c κs =
     let start : tie.Start = search in
     (omega (arith, length-threes (start .args .s .now)), start .pre, c .before .sure-square .ensures)
 
-mul-opened : tie.Need-mul-opened
-mul-opened c =
-    let space-out = c .before .before .space-out in
-    let doubled-within = c .before .before .before .before .before .doubled-within in
+few-spaced : tie.Need-mul-opened
+few-spaced c =
     let start : tie.Start = search in
-    let args = start .args in
-    omega (
-      arith,
-      length-threes (args .s .now),
-      space-out .ensures .0,
-      spaced-few (doubled-within .result) (verticesOf (args .s .now)),
-    )
+    let measured : tie.After-doubled-within = search in
+    let spaced : tie.After-space-out = search in
+    let s = start .args .s .now in
+    omega (arith, length-threes s, spaced .space-out .ensures .0, spaced-few (measured .doubled-within .result) (verticesOf s))
 
-part-opened-end : tie.Need-part-opened-end
-part-opened-end c =
-    let space-out = c .before .before .before .space-out in
-    let doubled-within = c .before .before .before .before .before .before .doubled-within in
+spaced-stand : tie.Need-part-opened-end
+spaced-stand c =
     let start : tie.Start = search in
-    let args = start .args in
-    omega (
-      arith,
-      length-threes (args .s .now),
-      space-out .ensures .0,
-      space-out .kept .0,
-      spaced-few (doubled-within .result) (verticesOf (args .s .now)),
-    )
+    let measured : tie.After-doubled-within = search in
+    let spaced : tie.After-space-out = search in
+    let s = start .args .s .now in
+    let few = spaced-few (measured .doubled-within .result) (verticesOf s) in
+    omega (arith, length-threes s, spaced .space-out .ensures .0, spaced .space-out .kept .0, few)
 
 opened-requires : tie.Need-opened-requires
 opened-requires c κs =
-    let space-out = c .before .before .before .before .space-out in
-    let sure-square = c .before .before .before .before .before .before .sure-square in
-    (simp length-take (omega (arith, space-out .kept .0)), sure-square .ensures)
+    let spaced : tie.After-space-out = search in
+    let sure : tie.After-sure-square = search in
+    (simp length-take (omega (arith, spaced .space-out .kept .0)), sure .sure-square .ensures)
 
-returns-2 : tie.Need-returns-2
-returns-2 c =
-    let space-out = c .before .before .before .before .before .space-out in
-    let doubled-within = c .before .before .before .before .before .before .before .before .doubled-within in
+returns : tie.Need-returns-2
+returns c =
     let start : tie.Start = search in
-    doubled-dropped (verticesOf (start .args .s .now)) (verticesOf (space-out .last .0)) (doubled-within .ensures)
-    (space-out .ensures) (rw sub-zero (threes-take (space-out .result) (space-out .last .0))) (c .opened .ensures)
+    let measured : tie.After-doubled-within = search in
+    let spaced : tie.After-space-out = search in
+    let s = spaced .space-out .last .0 in
+    doubled-dropped (verticesOf (start .args .s .now)) (verticesOf s) (measured .doubled-within .ensures)
+    (spaced .space-out .ensures) (rw sub-zero (threes-take (spaced .space-out .result) s)) (c .opened .ensures)
 
 pub remove-consecutive-duplicates-spec : {M : Type 1} → statement M
 remove-consecutive-duplicates-spec =
     tie.close
     (tie.spec
-    returns
+    no-point
     (λ c κs. search needs) (λ c κs. search needs)
     space-out-requires
-    mul-opened
+    few-spaced
     (λ c. search needs) (λ c. search needs)
-    part-opened-end
+    spaced-stand
     opened-requires
     (λ c. search needs)
-    returns-2)
+    returns)

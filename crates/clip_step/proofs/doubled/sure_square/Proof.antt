@@ -5,13 +5,13 @@ use borrow.Author.Needs.{needs}
 use Rattle.clip_step.proofs.doubled.sure_square.Statement.{statement}
 use Rattle.clip_step.proofs.doubled.sure_square.Tie as tie
 
-returns : tie.Need-returns
-returns c =
+square-passes : tie.Need-returns
+square-passes c =
     let args = c .before .before .args in
     sure-of (args .eps) _ (rw (← c .before .root .ensures) (c .if1 .taken))
 
-returns-2 : tie.Need-returns-2
-returns-2 c =
+nan-answered : tie.Need-returns-2
+nan-answered c =
     let args = c .before .before .args in
     never-sure (args .eps)
 
@@ -20,5 +20,5 @@ sure-square-spec =
     tie.close
     (tie.spec
     (λ c κs. search needs)
-    returns
-    returns-2)
+    square-passes
+    nan-answered)

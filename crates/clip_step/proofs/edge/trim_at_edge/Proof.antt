@@ -24,54 +24,53 @@ abbrev μ-loop : tie.MeasureT-loop
 
 loop-holds : tie.Need-loop-holds Inv-loop μ-loop
 loop-holds c =
-    let args = c .before .before .before .before .args in
-    let pre = c .before .before .before .before .pre in (
+    let start : tie.Start Inv-loop μ-loop = search in
+    let args = start .args in
+    let points = inPairs (args .src .now) in (
       sym (length-pairs (args .src .now)),
       refl,
       c .on-left .ensures,
       omega (arith, length-pairs (args .src .now)),
-      trimming-start (omega (arith, length-ringed (inPairs (args .src .now))))
-          (trimmed-ringed (args .a) (args .b) (inPairs (args .src .now)) (pre .0) (c .before .pair .ensures)),
+      trimming-start (omega (arith, length-ringed points))
+          (trimmed-ringed (args .a) (args .b) points (start .pre .0) (c .before .pair .ensures)),
     )
 
 emit-requires : tie.Need-emit-requires Inv-loop μ-loop
 emit-requires c κs =
-    let loop = c .before .before .before .before .loop in
+    let at : tie.At-loop Inv-loop μ-loop = search in
     let start : tie.Start Inv-loop μ-loop = search in
-    omega (arith, length-pairs (start .args .src .now), loop .inv .4 .few)
+    omega (arith, length-pairs (start .args .src .now), at .loop .inv .4 .few)
 
 loop-again : tie.Need-loop-again Inv-loop μ-loop
 loop-again c =
-    let emit = c .before .before .emit in
-    let on-left2 = c .before .before .before .before .on-left2 in
-    let pair2 = c .before .before .before .before .before .pair2 in
-    let loop-test = c .before .before .before .before .before .before .loop-test in
-    let loop = c .before .before .before .before .before .before .before .loop in
-    let start : tie.Start Inv-loop μ-loop = search in (
-      loop .inv .0,
-      emit .kept .0 ∙ loop .inv .1,
-      on-left2 .ensures,
+    let start : tie.Start Inv-loop μ-loop = search in
+    let inside : tie.In-loop Inv-loop μ-loop = search in
+    let judged : tie.After-on-left2 Inv-loop μ-loop = search in
+    let laid : tie.After-emit Inv-loop μ-loop = search in
+    let inv = inside .before .loop .inv in (
+      inv .0,
+      laid .emit .kept .0 ∙ inv .1,
+      judged .on-left2 .ensures,
       omega arith,
-      ringed-more (inPairs (start .args .src .now)) (loop .inv .4) (omega (arith, loop .inv .0, loop-test .taken))
-          (pair2 .ensures) (rw (loop .inv .2, on-left2 .ensures) at (emit .ensures)),
+      ringed-more (inPairs (start .args .src .now)) (inv .4) (omega (arith, inv .0, inside .loop-test .taken))
+          (judged .before .pair2 .ensures) (rw (inv .2, judged .on-left2 .ensures) at (laid .emit .ensures)),
     )
 
-emit-requires-2 : tie.Need-emit-requires-2 Inv-loop μ-loop
-emit-requires-2 c κs =
-    let loop = c .before .before .loop in
+last-emit-requires : tie.Need-emit-requires-2 Inv-loop μ-loop
+last-emit-requires c κs =
+    let at : tie.At-loop Inv-loop μ-loop = search in
     let start : tie.Start Inv-loop μ-loop = search in
-    omega (arith, length-pairs (start .args .src .now), loop .inv .4 .few)
+    omega (arith, length-pairs (start .args .src .now), at .loop .inv .4 .few)
 
 returns : tie.Need-returns Inv-loop μ-loop
 returns c =
-    let emit2 = c .before .before .emit2 in
-    let loop-test = c .before .before .before .before .loop-test in
-    let loop = c .before .before .before .before .before .loop in
-    let on-left = c .before .before .before .before .before .before .on-left in
-    let pair = c .before .before .before .before .before .before .before .pair in
     let start : tie.Start Inv-loop μ-loop = search in
-    ringed-end (inPairs (start .args .src .now)) (loop .inv .4) (omega (arith, loop .inv .0, loop .inv .3, loop-test .left))
-    (pair .ensures) (rw (loop .inv .2, on-left .ensures) at (emit2 .ensures))
+    let judged : tie.After-on-left Inv-loop μ-loop = search in
+    let done : tie.After-loop Inv-loop μ-loop = search in
+    let laid : tie.After-emit2 Inv-loop μ-loop = search in
+    let inv = done .before .loop .inv in
+    ringed-end (inPairs (start .args .src .now)) (inv .4) (omega (arith, inv .0, inv .3, done .loop-test .left))
+    (judged .before .pair .ensures) (rw (inv .2, judged .on-left .ensures) at (laid .emit2 .ensures))
 
 pub trim-at-edge-spec : {M : Type 1} → statement M
 trim-at-edge-spec =
@@ -85,6 +84,6 @@ trim-at-edge-spec =
     emit-requires
     (λ c. search needs) (λ c. search needs)
     loop-again
-    emit-requires-2
+    last-emit-requires
     (λ c. search needs)
     returns)

@@ -22,26 +22,26 @@ use Rattle.work_lists.specs.declared.Sum.{Sum}
 use Rattle.overlap.specs.declared.Measures.{Measures}
 use Rattle.overlap.specs.Tolerances.{measuresOf}
 use Rattle.overlap.specs.Steps.{Joint, Stocked, ownPart, otherPart}
-use Rattle.overlap.specs.Overlap.{patchesOf, addedTo, magnitudeOfSum, overlapOf}
+use Rattle.overlap.specs.Overlap.{firstPatches, secondPatches, addedTo, magnitudeOfSum, overlapOf}
 use Rattle.overlap.proofs.Sums.{added-append}
 
 -- ---- the sums
 module _ (room : ℕ) (vs : List Point) (faces : List (List ℕ)) (ws : List Point) (otherFaces : List (List ℕ))
     {m : Measures} {own planes : List Plane} {s : Sum}
     (q : m ≡ measuresOf vs ws) (e : own ≡ planesOf vs faces) (f : planes ≡ planesOf ws otherFaces)
-    (sum : s ≡ addedTo (m .reference) zero64 (patchesOf false room m vs faces planes)) where
+    (sum : s ≡ addedTo (m .reference) zero64 (firstPatches room m vs faces planes)) where
   -- where the sum over the first cell's faces is refused
   pub overlap-refused : s ≡ Sum.NoRoom → Sum.NoRoom ≡ overlapOf room vs faces ws otherFaces
   unfolding overlapOf
   overlap-refused g =
-      rw (← q, ← f, added-append (m .reference) zero64 (patchesOf false room m vs faces planes), ← sum, g)
+      rw (← q, ← f, added-append (m .reference) zero64 (firstPatches room m vs faces planes), ← sum, g)
 
   -- where it is v, and t the sum that goes on from v over the second cell's
-  pub overlap-is : {v : Float} {t r : Sum} → s ≡ Sum.Is v → t ≡ addedTo (m .reference) v (patchesOf true room m ws otherFaces own)
+  pub overlap-is : {v : Float} {t r : Sum} → s ≡ Sum.Is v → t ≡ addedTo (m .reference) v (secondPatches room m ws otherFaces own)
       → r ≡ magnitudeOfSum t → r ≡ overlapOf room vs faces ws otherFaces
   unfolding overlapOf
   overlap-is g h k =
-      rw (← q, ← f, ← e, added-append (m .reference) zero64 (patchesOf false room m vs faces planes), ← sum, g, ← h) k
+      rw (← q, ← f, ← e, added-append (m .reference) zero64 (firstPatches room m vs faces planes), ← sum, g, ← h) k
 
 -- ---- the stretch from a place to the end of a list is what it is without the place before
 pub to-the-end : (from : ℕ) (l : List Float) → take (length l - from) (drop from l) ≡ drop from l

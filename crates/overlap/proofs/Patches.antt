@@ -20,8 +20,8 @@ use Rattle.work_lists.specs.Steps.{Ended}
 use Rattle.clip.specs.Clip.{clipFaceOf}
 use Rattle.clip.proofs.Points.{LeftPoints, left-nothing, left-either, clip-points}
 use Rattle.overlap.specs.declared.Measures.{Measures}
-use Rattle.overlap.specs.Overlap.{coplanarSkip, otherPlanes, firstPatch, secondPatch, patchOf}
-use Rattle.overlap.specs.Steps.{Ready, roomOf}
+use Rattle.overlap.specs.Overlap.{otherPlanes, firstPatch, secondPatch}
+use Rattle.overlap.specs.Steps.{Ready, skipOf, patchOf, roomOf}
 
 -- the room goes by the lengths of the two work lists
 pub same-room : (a b a₀ b₀ : List Float) → length a ≡ length a₀ → length b ≡ length b₀ → roomOf a b ≡ roomOf a₀ b₀
@@ -35,7 +35,7 @@ clippers false plane tol planes = otherPlanes plane tol planes
 -- what is left of a face: nothing where it is skipped
 patch-is : (second : Bool) (room : ℕ) (m : Measures) (planes : List Plane) (ps : List Point)
     → patchOf second room m planes ps
-    ≡ cond (anyOf (coplanarSkip second (planeOf ps) (m .coplanar)) planes) nothing
+    ≡ cond (anyOf (skipOf second (planeOf ps) (m .coplanar)) planes) nothing
     (clipFaceOf room (m .eps) (clippers second (planeOf ps) (m .coplanar) planes) ps)
 unfolding firstPatch secondPatch
 patch-is true room m planes ps = refl
@@ -47,13 +47,13 @@ pub patch-points : (second : Bool) (room : ℕ) (m : Measures) (planes : List Pl
 patch-points second room m planes ps h =
     let tol = m .coplanar in
     let clipped = clip-points room (m .eps) (clippers second (planeOf ps) tol planes) ps h in
-    rw (patch-is second room m planes ps) (left-either (anyOf (coplanarSkip second (planeOf ps) tol) planes) left-nothing clipped)
+    rw (patch-is second room m planes ps) (left-either (anyOf (skipOf second (planeOf ps) tol) planes) left-nothing clipped)
 
 -- the same for a face that is ready, by whether it was found to be skipped
 module _ {vs : List Point} {face : List ℕ} {plane : Plane} {planes first second : List Float} {a b : List Point} {skipped : Bool}
     (other : Bool) (m : Measures)
     (ready : Ready vs face plane planes first second)
-    (asked : skipped ≡ anyOf (coplanarSkip other plane (m .coplanar)) (inFours planes)) where
+    (asked : skipped ≡ anyOf (skipOf other plane (m .coplanar)) (inFours planes)) where
   pub patch-skipped : skipped ≡ true → Ended (patchOf other (roomOf first second) m (inFours planes) (cornersOf vs face)) Nothing a b
   patch-skipped e =
       rw (patch-is other (roomOf first second) m (inFours planes) (cornersOf vs face), ← (ready .own), ← asked, e)

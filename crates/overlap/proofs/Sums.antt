@@ -26,12 +26,18 @@ use Rattle.work_lists.specs.WorkLists.{Outcome, nothing, noRoom, outline}
 use Rattle.work_lists.specs.Steps.{Ended}
 use Rattle.work_lists.proofs.Endings.{room-lacks}
 use Rattle.overlap.specs.declared.Measures.{Measures}
-use Rattle.overlap.specs.Overlap.{contributionOf, patchOf, addedTo}
-use Rattle.overlap.specs.Steps.{Ready}
+use Rattle.overlap.specs.Overlap.{firstPatches, secondPatches, contributionOf, addedTo}
+use Rattle.overlap.specs.Steps.{patchOf, patchesOf, Ready}
 
 -- what is left of a face that is given by its numbers
 abbrev pub facePatch : Bool → ℕ → Measures → List Point → List Plane → List ℕ → Outcome
 facePatch other room m vs planes face = patchOf other room m planes (cornersOf vs face)
+
+pub patches-are : (other : Bool) (room : ℕ) (m : Measures) (vs : List Point) (planes : List Plane) (faces : List (List ℕ))
+    → patchesOf other room m vs faces planes ≡ map (facePatch other room m vs planes) faces
+unfolding firstPatches secondPatches
+patches-are true room m vs planes faces = refl
+patches-are false room m vs planes faces = refl
 
 -- ---- a list that has what g gives of each face, one beside the other: from face k and the previous end p on
 pub record Beside {A : Type 0} (g : List ℕ → A) (c es : List ℕ) (l : List A) (p k : ℕ) : Type 0 where

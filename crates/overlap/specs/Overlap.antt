@@ -1,6 +1,6 @@
 -- convex_intersection_volume: each cell's faces clipped by the planes of the other, and the contributions of what is left.
 use Prim.Native.Nat.{ℕ}
-use mathlib.Core.Bool.{Bool, true, false, _||_, cond}
+use mathlib.Core.Bool.{Bool, _||_, cond}
 use mathlib.Core.List.{List, [], _∷_, _++_, map}
 use lib.Ieee.{Float}
 use Rattle.places.specs.Loops.{anyOf}
@@ -33,13 +33,16 @@ unfoldable pub contributionOf : Point → List Point → Float
 contributionOf ref [] = zero64 /f six64
 contributionOf ref (p ∷ ps) = foldPairs (addFan ref p) (steps ps) zero64 /f six64
 
--- ---- the faces
--- the plane p of the other cell keeps a face in this plane from being counted: a face of the second cell (true) where p is its plane,
--- from either side, and one of the first (false) where p is its plane from the other side
-abbrev pub coplanarSkip : Bool → Plane → Float → Plane → Bool
-coplanarSkip true plane tol p = coplanarOpposite p plane tol || sameSide p plane tol
-coplanarSkip false plane tol p = coplanarOpposite plane p tol
+-- ---- the coplanar skips
+-- the plane p of the second cell skips a face of the first in this plane: it is the face's own plane, from the other side
+abbrev pub firstSkip : Plane → Float → Plane → Bool
+firstSkip plane tol p = coplanarOpposite plane p tol
 
+-- the plane p of the first cell skips a face of the second in this plane: it is the face's own plane, from either side
+abbrev pub secondSkip : Plane → Float → Plane → Bool
+secondSkip plane tol p = coplanarOpposite p plane tol || sameSide p plane tol
+
+-- ---- what is left of the faces
 -- the planes that are not the plane itself, with the inside on the same side
 unfoldable pub otherPlanes : Plane → Float → List Plane → List Plane
 otherPlanes plane tol [] = []
@@ -47,31 +50,30 @@ otherPlanes plane tol (p ∷ ps) =
     let rest = otherPlanes plane tol ps in
     cond (sameSide plane p tol) rest (p ∷ rest)
 
--- a face of the first cell: none of it counts where it lies in a plane of the second from the other side; else it is clipped by the
+-- what is left of a face of the first cell, its corners ps: nothing where a plane of the second skips it; else it is clipped by the
 -- planes of the second that are not its own
 unfoldable pub firstPatch : ℕ → Measures → List Plane → List Point → Outcome
 firstPatch room m planes ps =
     let plane = planeOf ps in
     let left = clipFaceOf room (m .eps) (otherPlanes plane (m .coplanar) planes) ps in
-    cond (anyOf (coplanarSkip false plane (m .coplanar)) planes) nothing left
+    cond (anyOf (firstSkip plane (m .coplanar)) planes) nothing left
 
--- a face of the second cell: none of it counts where it lies in a plane of the first, from either side; else it is clipped by all
--- planes of the first
+-- what is left of a face of the second cell: nothing where a plane of the first skips it; else it is clipped by all planes of the first
 unfoldable pub secondPatch : ℕ → Measures → List Plane → List Point → Outcome
 secondPatch room m planes ps =
     let plane = planeOf ps in
     let left = clipFaceOf room (m .eps) planes ps in
-    cond (anyOf (coplanarSkip true plane (m .coplanar)) planes) nothing left
+    cond (anyOf (secondSkip plane (m .coplanar)) planes) nothing left
 
--- a face of the second cell (true) or of the first (false), clipped by planes of the other
-abbrev pub patchOf : Bool → ℕ → Measures → List Plane → List Point → Outcome
-patchOf true room m planes ps = secondPatch room m planes ps
-patchOf false room m planes ps = firstPatch room m planes ps
+-- what is left of the first cell's faces, in their order
+unfoldable pub firstPatches : ℕ → Measures → List Point → List (List ℕ) → List Plane → List Outcome
+firstPatches room m vs faces planes = map (λ face. firstPatch room m planes (cornersOf vs face)) faces
 
--- what is left of a cell's faces, clipped by planes of the other
-unfoldable pub patchesOf : Bool → ℕ → Measures → List Point → List (List ℕ) → List Plane → List Outcome
-patchesOf second room m vs faces planes = map (λ face. patchOf second room m planes (cornersOf vs face)) faces
+-- what is left of the second cell's faces, in their order
+unfoldable pub secondPatches : ℕ → Measures → List Point → List (List ℕ) → List Plane → List Outcome
+secondPatches room m ws faces planes = map (λ face. secondPatch room m planes (cornersOf ws face)) faces
 
+-- ---- their sum
 -- the contributions added in order to the sum v; where a face had no room there is no sum.
 -- An outline of 0 points reads as nothing left, as SCOPE 11 has it; none occurs here, for no face has 0 corners (refusal 5),
 -- and a plane that cuts leaves at least 3 points (`patch-points` of proofs/Patches.antt)
@@ -91,8 +93,8 @@ magnitudeOfSum Sum.NoRoom = Sum.NoRoom
 unfoldable pub overlapOf : ℕ → List Point → List (List ℕ) → List Point → List (List ℕ) → Sum
 overlapOf room vs faces ws otherFaces =
     let m = measuresOf vs ws in
-    let ofFirst = patchesOf false room m vs faces (planesOf ws otherFaces) in
-    let ofSecond = patchesOf true room m ws otherFaces (planesOf vs faces) in
+    let ofFirst = firstPatches room m vs faces (planesOf ws otherFaces) in
+    let ofSecond = secondPatches room m ws otherFaces (planesOf vs faces) in
     magnitudeOfSum (addedTo (m .reference) zero64 (ofFirst ++ ofSecond))
 
 -- convex_intersection_volume: 0 where the boxes miss each other

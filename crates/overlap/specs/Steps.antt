@@ -14,11 +14,29 @@ use Rattle.cell.specs.Refusals.{emptyRefused}
 use Rattle.cell.specs.Steps.{Sound}
 use Rattle.planes.specs.declared.Plane.{Plane}
 use Rattle.planes.specs.Planes.{planeOf, inFours}
-use Rattle.work_lists.specs.WorkLists.{shorterOf}
+use Rattle.work_lists.specs.WorkLists.{Outcome, shorterOf}
+use Rattle.overlap.specs.declared.Measures.{Measures}
+use Rattle.overlap.specs.Overlap.{firstSkip, secondSkip, firstPatch, secondPatch, firstPatches, secondPatches}
 
 -- the larger of m and the sum of the squares of what p and c differ by
 unfoldable pub fartherSquare : Point → Point → Float → Float
 fartherSquare c p m = largestOf m (squareOf p c)
+
+-- ---- the two cells told apart: the second cell where the Bool is true, the first where it is false
+-- whether a plane of the other cell skips a face
+abbrev pub skipOf : Bool → Plane → Float → Plane → Bool
+skipOf true = secondSkip
+skipOf false = firstSkip
+
+-- what is left of a face
+abbrev pub patchOf : Bool → ℕ → Measures → List Plane → List Point → Outcome
+patchOf true = secondPatch
+patchOf false = firstPatch
+
+-- what is left of the cell's faces
+abbrev pub patchesOf : Bool → ℕ → Measures → List Point → List (List ℕ) → List Plane → List Outcome
+patchesOf true = secondPatches
+patchesOf false = firstPatches
 
 -- ---- what the overlap wants: of a cell, of a face that is to be clipped, and of its lists
 -- a cell that is not refused 1 to 5

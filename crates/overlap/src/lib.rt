@@ -19,9 +19,9 @@ ghost use Rattle.cell.specs.Steps.{Sound};
 ghost use Rattle.planes.specs.Planes.{planesOf, inFours};
 ghost use Rattle.work_lists.specs.WorkLists.{shorterOf};
 ghost use Rattle.work_lists.specs.Steps.{Ended};
-ghost use Rattle.overlap.specs.Overlap.{contributionOf, coplanarSkip, otherPlanes, firstPatch, secondPatch, patchOf};
-ghost use Rattle.overlap.specs.Overlap.{patchesOf, addedTo, magnitudeOfSum, overlapOf, intersectionOf};
-ghost use Rattle.overlap.specs.Steps.{Solid, Ready, Joint, Stocked, roomOf, ownPart, otherPart};
+ghost use Rattle.overlap.specs.Overlap.{contributionOf, otherPlanes, firstPatch, secondPatch};
+ghost use Rattle.overlap.specs.Overlap.{addedTo, magnitudeOfSum, overlapOf, intersectionOf};
+ghost use Rattle.overlap.specs.Steps.{Solid, Ready, Joint, Stocked, skipOf, patchOf, patchesOf, roomOf, ownPart, otherPart};
 
 // The clip's eps, the coplanar tolerance, and the point about which contributions are taken.
 pub struct Measures {
@@ -31,7 +31,7 @@ pub struct Measures {
 }
 
 // Whose faces are added, those of the first cell or of the other, by which measures, and their sum so far.
-struct Tally {
+struct SumSoFar {
     other: bool,
     m: Measures,
     sum: f64,
@@ -62,7 +62,7 @@ fn contribution(s: &[f64], reference: [f64; 3]) -> f64
 
 // Whether the plane p of the other cell keeps a face in this plane from being counted.
 fn coplanar_skip(other: bool, plane: Plane, p: Plane, tol: f64) -> bool
-    ensures { λ r. ⌜ r ≡ coplanarSkip other plane tol p ⌝ }
+    ensures { λ r. ⌜ r ≡ skipOf other plane tol p ⌝ }
 {
     if !other {
         return planes::plane_coplanar_opposite(plane, p, tol);
@@ -75,7 +75,7 @@ fn coplanar_skip(other: bool, plane: Plane, p: Plane, tol: f64) -> bool
 
 // Whether one of the planes does.
 fn any_coplanar_skip(other: bool, plane: Plane, planes: &[f64], tol: f64) -> bool
-    ensures { λ r. ⌜ r ≡ anyOf (coplanarSkip other plane tol) (inFours (now (planes .entry))) ⌝ }
+    ensures { λ r. ⌜ r ≡ anyOf (skipOf other plane tol) (inFours (now (planes .entry))) ⌝ }
 {
     let n = planes.len() / 4;
     let mut i = 0;
@@ -154,7 +154,7 @@ fn second_patch(
 
 // What is left of a face of the first cell or of the second.
 fn patch(
-    t: Tally,
+    t: SumSoFar,
     coords: &[f64],
     face: &[u32],
     plane: Plane,
@@ -178,7 +178,7 @@ fn patch(
 
 // The sum with the contribution of what is left of one face.
 fn add_face(
-    t: Tally,
+    t: SumSoFar,
     coords: &[f64],
     face: &[u32],
     plane: Plane,
@@ -230,9 +230,9 @@ fn other_part(both: &[f64], n: usize, other: bool) -> &[f64]
     &both[n..]
 }
 
-// The contributions of a cell's faces, added to the sum of the tally in the order of the faces.
+// The contributions of a cell's faces, added to the sum so far in the order of the faces.
 fn add_faces(
-    t: Tally,
+    t: SumSoFar,
     coords: &[f64],
     corners: &[u32],
     ends: &[u32],
@@ -263,7 +263,7 @@ fn add_faces(
         let plane = planes::plane_at(own, k);
         start = end;
         k += 1;
-        let u = Tally { other, m, sum };
+        let u = SumSoFar { other, m, sum };
         match add_face(u, coords, face, plane, planes, kept, first, second) {
             Sum::Is(v) => sum = v,
             Sum::NoRoom => return Sum::NoRoom,
@@ -328,7 +328,7 @@ fn overlap_16(
     let both = &mut list[0..all];
     both_planes(coords, corners, ends, coords2, corners2, ends2, both);
     let m = tolerances::measures(coords, coords2);
-    let t = Tally {
+    let t = SumSoFar {
         other: false,
         m,
         sum: 0.0,
@@ -336,7 +336,7 @@ fn overlap_16(
     match add_faces(t, coords, corners, ends, both, &mut kept, first, second) {
         Sum::NoRoom => Sum::NoRoom,
         Sum::Is(sum) => {
-            let u = Tally {
+            let u = SumSoFar {
                 other: true,
                 m,
                 sum,
@@ -370,7 +370,7 @@ fn overlap_256(
     let both = &mut list[0..all];
     both_planes(coords, corners, ends, coords2, corners2, ends2, both);
     let m = tolerances::measures(coords, coords2);
-    let t = Tally {
+    let t = SumSoFar {
         other: false,
         m,
         sum: 0.0,
@@ -378,7 +378,7 @@ fn overlap_256(
     match add_faces(t, coords, corners, ends, both, &mut kept, first, second) {
         Sum::NoRoom => Sum::NoRoom,
         Sum::Is(sum) => {
-            let u = Tally {
+            let u = SumSoFar {
                 other: true,
                 m,
                 sum,

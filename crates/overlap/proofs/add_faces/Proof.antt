@@ -9,11 +9,10 @@ use Rattle.cell.specs.Faces.{facesOf}
 use Rattle.planes.specs.Planes.{planesOf, inFours}
 use Rattle.planes.specs.Steps.{noPlane}
 use Rattle.planes.proofs.Faces.{facePlane}
-use Rattle.overlap.specs.Overlap.{patchesOf, addedTo}
-use Rattle.overlap.specs.Steps.{roomOf}
+use Rattle.overlap.specs.Overlap.{addedTo}
+use Rattle.overlap.specs.Steps.{patchesOf, roomOf}
 use Rattle.overlap.proofs.Patches.{same-room}
-use Rattle.overlap.proofs.Sums.{facePatch, Beside, beside-start, beside-room, beside-next, ready-at}
-use Rattle.overlap.proofs.Sums.{Adding, add-start, add-step, add-more, add-refused, add-end}
+use Rattle.overlap.proofs.Sums.{facePatch, patches-are, Beside, beside-start, beside-room, beside-next, ready-at, Adding, add-start, add-step, add-more, add-refused, add-end}
 use borrow.Author.Needs.{needs}
 use Rattle.overlap.proofs.add_faces.Statement.{statement}
 use Rattle.overlap.proofs.add_faces.Tie as tie
@@ -32,12 +31,12 @@ abbrev μ-loop : tie.MeasureT-loop
     length ends - k
 
 loop-holds : tie.Need-loop-holds Inv-loop μ-loop
-unfolding planesOf patchesOf
+unfolding planesOf
 loop-holds c =
     let start : tie.Start Inv-loop μ-loop = search in
     let cut : tie.After-own-part Inv-loop μ-loop = search in
     let own-planes = ap inFours (cut .own-part .ensures) ∙ start .pre .1 .0 .own-planes in
-    (refl, refl, refl, beside-start own-planes, add-start (start .pre .0 .ordered))
+    (refl, refl, refl, beside-start own-planes, rw patches-are (add-start (start .pre .0 .ordered)))
 
 face-requires : tie.Need-face-requires Inv-loop μ-loop
 face-requires c κs =

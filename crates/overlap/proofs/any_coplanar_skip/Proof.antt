@@ -8,7 +8,7 @@ use Rattle.places.proofs.Loops.{Asking, ask-start, ask-yes, ask-no, ask-end}
 use Rattle.planes.specs.Planes.{inFours}
 use Rattle.planes.specs.Steps.{noPlane}
 use Rattle.planes.proofs.Stored.{length-fours}
-use Rattle.overlap.specs.Overlap.{coplanarSkip}
+use Rattle.overlap.specs.Steps.{skipOf}
 use borrow.Author.Needs.{needs}
 use Rattle.overlap.proofs.any_coplanar_skip.Statement.{statement}
 use Rattle.overlap.proofs.any_coplanar_skip.Tie as tie
@@ -16,7 +16,7 @@ use Rattle.overlap.proofs.any_coplanar_skip.Tie as tie
 abbrev Inv-loop : tie.InvT-loop
 Inv-loop other plane planes tol n i₀ i =
     (n ≡ length (inFours planes)) ×
-    Asking (coplanarSkip other plane tol) (inFours planes) (anyOf (coplanarSkip other plane tol) (inFours planes)) i
+    Asking (skipOf other plane tol) (inFours planes) (anyOf (skipOf other plane tol) (inFours planes)) i
 
 abbrev μ-loop : tie.MeasureT-loop
 μ-loop other plane planes tol n i₀ i = n - i

@@ -6,7 +6,7 @@ use mathlib.Core.List.{List, [], _∷_, _++_, append-nil}
 use Prim.Native.Nat.{ℕ, _+_, _-_, _≤_}
 use native.Mathlib.Nat.{sub-zero}
 use native.Mathlib.Omega.{arith}
-use lib.ListN.{length, take, drop, replicate, length-take, length-drop, length-append}
+use lib.ListN.{length, take, drop, replicate, length-take, length-drop, length-append, length-replicate}
 use lib.Seq.{take-all, take-at, drop-at}
 use borrow.Rule.Slice.PartMut.{postOf, putMid}
 use lib.Ieee.{Float}
@@ -21,61 +21,79 @@ use Rattle.planes.specs.Planes.{planesOf, inFours}
 use Rattle.work_lists.specs.declared.Sum.{Sum}
 use Rattle.overlap.specs.declared.Measures.{Measures}
 use Rattle.overlap.specs.Tolerances.{measuresOf}
-use Rattle.overlap.specs.Steps.{Joint, Stocked, ownPart, otherPart}
+use Rattle.overlap.specs.Steps.{Joint, Stocked, roomOf, otherPart}
 use Rattle.overlap.specs.Overlap.{firstPatches, secondPatches, addedTo, magnitudeOfSum, overlapOf}
+use Rattle.overlap.proofs.Patches.{same-room}
 use Rattle.overlap.proofs.Sums.{added-append}
-
--- ---- the sums
-module _ (room : ℕ) (vs : List Point) (faces : List (List ℕ)) (ws : List Point) (otherFaces : List (List ℕ))
-    {m : Measures} {own planes : List Plane} {s : Sum}
-    (q : m ≡ measuresOf vs ws) (e : own ≡ planesOf vs faces) (f : planes ≡ planesOf ws otherFaces)
-    (sum : s ≡ addedTo (m .reference) zero64 (firstPatches room m vs faces planes)) where
-  -- where the sum over the first cell's faces is refused
-  pub overlap-refused : s ≡ Sum.NoRoom → Sum.NoRoom ≡ overlapOf room vs faces ws otherFaces
-  unfolding overlapOf
-  overlap-refused g =
-      rw (← q, ← f, added-append (m .reference) zero64 (firstPatches room m vs faces planes), ← sum, g)
-
-  -- where it is v, and t the sum that goes on from v over the second cell's
-  pub overlap-is : {v : Float} {t r : Sum} → s ≡ Sum.Is v → t ≡ addedTo (m .reference) v (secondPatches room m ws otherFaces own)
-      → r ≡ magnitudeOfSum t → r ≡ overlapOf room vs faces ws otherFaces
-  unfolding overlapOf
-  overlap-is g h k =
-      rw (← q, ← f, ← e, added-append (m .reference) zero64 (firstPatches room m vs faces planes), ← sum, g, ← h) k
 
 -- ---- the stretch from a place to the end of a list is what it is without the place before
 pub to-the-end : (from : ℕ) (l : List Float) → take (length l - from) (drop from l) ≡ drop from l
 to-the-end from l = take-all (length l - from) (drop from l) (rw length-drop (omega arith))
 
 -- ---- the list of both cells' planes, cut into those of each
-module _ {n k : ℕ} {firsts seconds : List Plane} (both : List Float) (j : Joint n k firsts seconds both) where
+module _ {n k : ℕ} {firsts seconds : List Plane} {both : List Float} (j : Joint n k firsts seconds both) where
   -- where the second cell's start, counted from the end
   seam : length both - k ≡ n
   seam = omega (arith, j .size)
 
-  pub others-first : inFours (otherPart false n both) ≡ seconds
+  others-first : inFours (otherPart false n both) ≡ seconds
   others-first = j .of-second
 
-  pub others-second : inFours (otherPart true k both) ≡ firsts
+  others-second : inFours (otherPart true k both) ≡ firsts
   others-second = rw seam (j .of-first)
 
-  pub stocked-first : {kept : List Float} {most : ℕ} → length kept ≡ most → k ≤ most → most ≤ 1024 → Stocked false n firsts both kept
-  stocked-first e g h =
-      record {
-        fits = omega (arith, j .size);
-        own-planes = j .of-first;
-        few-others = rw length-drop (omega (arith, j .size));
-        room = rw length-drop (omega (arith, j .size));
-      }
+  -- where the list `kept` has `most` numbers, the planes of each cell have room there
+  module _ (most : ℕ) (few : most ≤ 1024) where
+    pub stocked-first : k ≤ most → Stocked false n firsts both (replicate most zero64)
+    stocked-first h =
+        let size = length-replicate most zero64 in
+        record {
+          fits = omega (arith, j .size);
+          own-planes = j .of-first;
+          few-others = rw length-drop (omega (arith, j .size));
+          room = rw length-drop (omega (arith, j .size));
+        }
 
-  pub stocked-second : {kept : List Float} {most : ℕ} → length kept ≡ most → n ≤ most → most ≤ 1024 → Stocked true k seconds both kept
-  stocked-second e g h =
-      record {
-        fits = omega (arith, j .size);
-        own-planes = rw seam (j .of-second);
-        few-others = rw (seam, length-take) (omega arith);
-        room = rw (seam, length-take) (omega arith);
-      }
+    pub stocked-second : {kept : List Float} → length kept ≡ length (replicate most zero64) → n ≤ most → Stocked true k seconds both kept
+    stocked-second e h =
+        let size = length-replicate most zero64 in
+        record {
+          fits = omega (arith, j .size);
+          own-planes = rw seam (j .of-second);
+          few-others = rw (seam, length-take) (omega arith);
+          room = rw (seam, length-take) (omega arith);
+        }
+
+-- ---- the sums: m measures the two cells, the list `both` has their planes, and s is the sum over the first cell's faces
+module _ (first second : List Float) (vs : List Point) (faces : List (List ℕ)) (ws : List Point) (otherFaces : List (List ℕ))
+    {both : List Float} {n k : ℕ} {m : Measures} {s : Sum}
+    (q : m ≡ measuresOf vs ws) (j : Joint n k (planesOf vs faces) (planesOf ws otherFaces) both)
+    (sum : s ≡ addedTo (m .reference) zero64 (firstPatches (roomOf first second) m vs faces (inFours (otherPart false n both)))) where
+  -- where there is no room for one of these faces
+  pub overlap-refused : s ≡ Sum.NoRoom → Sum.NoRoom ≡ overlapOf (roomOf first second) vs faces ws otherFaces
+  unfolding overlapOf
+  overlap-refused g =
+      let ofFirst = firstPatches (roomOf first second) m vs faces (inFours (otherPart false n both)) in
+      rw (← q, ← others-first j, added-append (m .reference) zero64 ofFirst, ← sum, g)
+
+  -- where it is v, t the sum that goes on from v over the second cell's faces, in lists of the same lengths, and r its magnitude
+  pub overlap-is : (first′ second′ : List Float) {v : Float} {t r : Sum} → s ≡ Sum.Is v
+      → length first′ ≡ length first → length second′ ≡ length second
+      → t ≡ addedTo (m .reference) v (secondPatches (roomOf first′ second′) m ws otherFaces (inFours (otherPart true k both)))
+      → r ≡ magnitudeOfSum t → r ≡ overlapOf (roomOf first second) vs faces ws otherFaces
+  unfolding overlapOf
+  overlap-is first′ second′ g a b h e =
+      let ofFirst = firstPatches (roomOf first second) m vs faces (inFours (otherPart false n both)) in
+      rw (
+        ← q,
+        ← others-first j,
+        ← others-second j,
+        added-append (m .reference) zero64 ofFirst,
+        ← sum,
+        g,
+        ← same-room first′ second′ first second a b,
+        ← h,
+      ) e
 
 -- ---- how that list is laid: a comes into the first n places of a list l, and then b into those from n on
 abbrev laidFront : ℕ → List Float → List Float → List Float

@@ -9,7 +9,7 @@ use lib.ListN.{length, take}
 use lib.Ieee.{Float}
 use Rattle.places.specs.Loops.{anyOf}
 use Rattle.places.proofs.Stored.{length-threes}
-use Rattle.flat.specs.Points.{Point, verticesOf, cornersOf}
+use Rattle.flat.specs.Points.{Point, cornersOf}
 use Rattle.planes.specs.declared.Plane.{Plane}
 use Rattle.planes.specs.Planes.{inFours, planeOf}
 use Rattle.planes.proofs.Stored.{take-fours}

@@ -27,7 +27,8 @@ use Rattle.work_lists.specs.Steps.{Ended}
 use Rattle.work_lists.proofs.Endings.{room-lacks}
 use Rattle.overlap.specs.declared.Measures.{Measures}
 use Rattle.overlap.specs.Overlap.{firstPatches, secondPatches, contributionOf, addedTo}
-use Rattle.overlap.specs.Steps.{patchOf, patchesOf, Ready}
+use Rattle.overlap.specs.Steps.{patchOf, patchesOf, roomOf, Ready}
+use Rattle.overlap.proofs.Patches.{same-room}
 
 -- what is left of a face that is given by its numbers
 abbrev pub facePatch : Bool → ℕ → Measures → List Point → List Plane → List ℕ → Outcome
@@ -38,6 +39,24 @@ pub patches-are : (other : Bool) (room : ℕ) (m : Measures) (vs : List Point) (
 unfolding firstPatches secondPatches
 patches-are true room m vs planes faces = refl
 patches-are false room m vs planes faces = refl
+
+-- ---- the lists that are lent keep their lengths
+pub record SameLengths (kept₀ first₀ second₀ kept first second : List Float) : Type 0 where
+  pub of-kept : length kept ≡ length kept₀
+  pub of-first : length first ≡ length first₀
+  pub of-second : length second ≡ length second₀
+
+pub lengths-start : {kept first second : List Float} → SameLengths kept first second kept first second
+lengths-start = record { of-kept = refl; of-first = refl; of-second = refl }
+
+module _ {kept₀ first₀ second₀ kept first second : List Float} (same : SameLengths kept₀ first₀ second₀ kept first second) where
+  pub lengths-kept : {kept′ first′ second′ : List Float} → length kept′ ≡ length kept → length first′ ≡ length first
+      → length second′ ≡ length second → SameLengths kept₀ first₀ second₀ kept′ first′ second′
+  lengths-kept e f g = record { of-kept = e ∙ same .of-kept; of-first = f ∙ same .of-first; of-second = g ∙ same .of-second }
+
+  -- so the room is as it was
+  pub room-kept : roomOf first second ≡ roomOf first₀ second₀
+  room-kept = same-room first second first₀ second₀ (same .of-first) (same .of-second)
 
 -- ---- a list that has what g gives of each face, one beside the other: from face k and the previous end p on
 pub record Beside {A : Type 0} (g : List ℕ → A) (c es : List ℕ) (l : List A) (p k : ℕ) : Type 0 where

@@ -40,7 +40,8 @@ loop-holds c =
       sym (length-threes src),
       refl,
       c .distance .ensures,
-      trimming-start zero-le (trimmed-last (args .plane) (args .eps) (verticesOf src) (rw (length-threes src) (c .before .vertex .ensures))),
+      trimming-start zero-le
+          (trimmed-last (args .plane) (args .eps) (verticesOf src) (rw (length-threes src) (c .before .vertex .ensures))),
     )
 
 emit-requires : tie.Need-emit-requires Inv-loop μ-loop

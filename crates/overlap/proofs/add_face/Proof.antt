@@ -7,15 +7,17 @@ use borrow.Author.Needs.{needs}
 use Rattle.overlap.proofs.add_face.Statement.{statement}
 use Rattle.overlap.proofs.add_face.Tie as tie
 
-mul-shown : tie.Need-mul-shown
-mul-shown c =
+few-numbers : tie.Need-mul-shown
+few-numbers c =
     let done : tie.After-patch = search in
     let told : tie.After-n = search in
     let ended = rw (told .n .given .1) at (done .patch .ensures) in
     let start : tie.Start = search in
     let ready = start .pre .0 in
-    let same = done .patch .kept .1 .1 .1 .1 .1 .1 in
-    omega (arith, outline-small reads-threes ended {k = 3072} (rw (same .0) (ready .short-first)) (rw (same .1 .0) (ready .short-second)))
+    let lists = done .patch .kept .1 .1 .1 .1 .1 .1 in
+    let first = lists .0 in
+    let second = lists .1 .0 in
+    omega (arith, outline-small reads-threes ended {k = 3072} (rw first (ready .short-first)) (rw second (ready .short-second)))
 
 shown-requires : tie.Need-shown-requires
 shown-requires c κs =
@@ -45,7 +47,7 @@ add-face-spec =
     tie.close
     (tie.spec
     (λ c κs. search needs) (λ c. search needs) (λ c. search needs)
-    mul-shown
+    few-numbers
     shown-requires
     (λ c κs. search needs) (λ c. search needs) (λ c. search needs) (λ c. search needs) (λ c. search needs)
     nothing-left

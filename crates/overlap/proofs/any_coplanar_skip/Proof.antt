@@ -24,18 +24,18 @@ abbrev μ-loop : tie.MeasureT-loop
 loop-holds : tie.Need-loop-holds Inv-loop μ-loop
 loop-holds c = (sym (length-fours (c .before .args .planes .now)), ask-start refl)
 
-returns : tie.Need-returns Inv-loop μ-loop
-returns c =
+one-skips : tie.Need-returns Inv-loop μ-loop
+one-skips c =
     let loop = c .before .before .before .before .loop in
     ask-yes noPlane (loop .inv .1) (search needs) (cc)
 
-loop-again : tie.Need-loop-again Inv-loop μ-loop
-loop-again c =
+goes-on : tie.Need-loop-again Inv-loop μ-loop
+goes-on c =
     let loop = c .before .before .before .before .loop in
     (loop .inv .0, ask-no noPlane (loop .inv .1) (search needs) (cc))
 
-returns-2 : tie.Need-returns-2 Inv-loop μ-loop
-returns-2 c = ask-end (c .before .loop .inv .1) (search needs)
+none-skips : tie.Need-returns-2 Inv-loop μ-loop
+none-skips c = ask-end (c .before .loop .inv .1) (search needs)
 
 pub any-coplanar-skip-spec : {M : Type 1} → statement M
 any-coplanar-skip-spec =
@@ -45,7 +45,7 @@ any-coplanar-skip-spec =
     μ-loop
     loop-holds
     (λ c κs. search needs) (λ c κs. search needs)
-    returns
+    one-skips
     (λ c. search needs) (λ c. search needs)
-    loop-again
-    returns-2)
+    goes-on
+    none-skips)

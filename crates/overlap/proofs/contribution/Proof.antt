@@ -20,18 +20,18 @@ Inv-loop s reference n p a₀ v₀ i₀ a v i =
 abbrev μ-loop : tie.MeasureT-loop
 μ-loop s reference n p a₀ v₀ i₀ a v i = n - i
 
-returns : tie.Need-returns Inv-loop μ-loop
-returns c =
+no-triangle : tie.Need-returns Inv-loop μ-loop
+no-triangle c =
     let args = c .before .before .args in
     contribution-none (args .reference) _ (omega (arith, length-threes (args .s .now)))
 
-vertex-requires : tie.Need-vertex-requires Inv-loop μ-loop
-vertex-requires c κs =
+first-vertex : tie.Need-vertex-requires Inv-loop μ-loop
+first-vertex c κs =
     let args = c .before .before .args in
     omega (arith, length-threes (args .s .now))
 
-vertex-requires-2 : tie.Need-vertex-requires-2 Inv-loop μ-loop
-vertex-requires-2 c κs =
+second-vertex : tie.Need-vertex-requires-2 Inv-loop μ-loop
+second-vertex c κs =
     let args = c .before .before .before .before .args in
     omega (arith, length-threes (args .s .now))
 
@@ -43,11 +43,12 @@ loop-holds c =
 
 loop-again : tie.Need-loop-again Inv-loop μ-loop
 loop-again c =
-    let loop = c .before .before .before .before .loop in
+    let at : tie.At-loop Inv-loop μ-loop = search in
+    let loop = at .loop in
     (loop .inv .0, loop .inv .1, fan-next (loop .inv .2) (search needs) (cc) (cc))
 
-returns-2 : tie.Need-returns-2 Inv-loop μ-loop
-returns-2 c =
+whole-fan : tie.Need-returns-2 Inv-loop μ-loop
+whole-fan c =
     let loop = c .before .loop in
     let start : tie.Start Inv-loop μ-loop = search in
     let args = start .args in
@@ -60,12 +61,12 @@ contribution-spec =
     (tie.spec
     Inv-loop
     μ-loop
-    returns
-    vertex-requires
+    no-triangle
+    first-vertex
     (λ c κs. search needs)
-    vertex-requires-2
+    second-vertex
     (λ c κs. search needs)
     loop-holds
     (λ c κs. search needs) (λ c κs. search needs) (λ c κs. search needs) (λ c. search needs) (λ c. search needs)
     loop-again
-    returns-2)
+    whole-fan)

@@ -8,15 +8,13 @@ use Rattle.overlap.proofs.convex_intersection_volume.Tie as tie
 
 returns : tie.Need-returns
 returns c =
-    let wipe2 = c .before .before .wipe2 in
-    let wipe = c .before .before .before .before .before .before .wipe in
-    let record { before = _; intersection = intersection } : tie.After-intersection = search in (
-      intersection .ensures,
-      (
-        wipe .ensures ∙ rw (sub-zero, intersection .kept .1 .1 .1 .1 .1 .1 .0),
-        wipe2 .ensures ∙ rw (sub-zero, intersection .kept .1 .1 .1 .1 .1 .1 .1 .0),
-      ),
-    )
+    let summed : tie.After-intersection = search in
+    let cleared : tie.After-wipe = search in
+    let cleared2 : tie.After-wipe2 = search in
+    let lists = summed .intersection .kept .1 .1 .1 .1 .1 .1 in
+    let first = lists .0 in
+    let second = lists .1 .0 in
+    (summed .intersection .ensures, (cleared .wipe .ensures ∙ rw (sub-zero, first), cleared2 .wipe2 .ensures ∙ rw (sub-zero, second)))
 
 pub convex-intersection-volume-spec : {M : Type 1} → statement M
 convex-intersection-volume-spec =

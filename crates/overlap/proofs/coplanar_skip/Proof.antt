@@ -5,19 +5,19 @@ use borrow.Author.Needs.{needs}
 use Rattle.overlap.proofs.coplanar_skip.Statement.{statement}
 use Rattle.overlap.proofs.coplanar_skip.Tie as tie
 
-returns : tie.Need-returns
-returns c =
+first-cell : tie.Need-returns
+first-cell c =
     let args = c .before .before .args in
     rw (not-true (args .other) (c .before .if1 .taken)) (c .plane-coplanar-opposite .ensures)
 
-returns-2 : tie.Need-returns-2
-returns-2 c =
+second-opposite : tie.Need-returns-2
+second-opposite c =
     let if1 = c .before .before .if1 in
     let args = c .before .before .before .args in
     rw (not-false (args .other) (if1 .left), ← c .before .plane-coplanar-opposite2 .ensures, c .if2 .taken)
 
-returns-3 : tie.Need-returns-3
-returns-3 c =
+same-side-decides : tie.Need-returns-3
+same-side-decides c =
     let plane-coplanar-opposite2 = c .before .before .plane-coplanar-opposite2 in
     let if1 = c .before .before .before .if1 in
     let args = c .before .before .before .before .args in
@@ -29,8 +29,8 @@ coplanar-skip-spec =
     tie.close
     (tie.spec
     (λ c κs. search needs)
-    returns
+    first-cell
     (λ c κs. search needs)
-    returns-2
+    second-opposite
     (λ c κs. search needs)
-    returns-3)
+    same-side-decides)

@@ -3,18 +3,18 @@ use borrow.Author.Needs.{needs}
 use Rattle.overlap.proofs.magnitude_of.Statement.{statement}
 use Rattle.overlap.proofs.magnitude_of.Tie as tie
 
-returns : tie.Need-returns
-returns c =
+of-sum : tie.Need-returns
+of-sum c =
     let sum = c .before .before .sum in
     rw (sum .given .1, ← c .magnitude .ensures)
 
-returns-2 : tie.Need-returns-2
-returns-2 c = rw (c .enum-told .given .1)
+no-room : tie.Need-returns-2
+no-room c = rw (c .enum-told .given .1)
 
 pub magnitude-of-spec : {M : Type 1} → statement M
 magnitude-of-spec =
     tie.close
     (tie.spec
     (λ c. search needs) (λ c κs. search needs) (λ c. search needs)
-    returns
-    returns-2)
+    of-sum
+    no-room)

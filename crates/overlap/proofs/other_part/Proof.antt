@@ -5,13 +5,13 @@ use borrow.Author.Needs.{needs}
 use Rattle.overlap.proofs.other_part.Statement.{statement}
 use Rattle.overlap.proofs.other_part.Tie as tie
 
-returns : tie.Need-returns
-returns c =
+of-second : tie.Need-returns
+of-second c =
     let asked : tie.Then1 = search in
     rw (asked .if1 .taken, sub-zero)
 
-returns-2 : tie.Need-returns-2
-returns-2 c =
+of-first : tie.Need-returns-2
+of-first c =
     let asked : tie.Else1 = search in
     let args = asked .before .args in
     rw (asked .if1 .left) (to-the-end (args .n) (args .both .now))
@@ -21,6 +21,6 @@ other-part-spec =
     tie.close
     (tie.spec
     (λ c. search needs) (λ c. search needs) (λ c. search needs) (λ c. search needs)
-    returns
+    of-second
     (λ c. search needs) (λ c. search needs) (λ c. search needs) (λ c. search needs)
-    returns-2)
+    of-first)

@@ -23,40 +23,41 @@ abbrev μ-loop : tie.MeasureT-loop
 
 loop-holds : tie.Need-loop-holds Inv-loop μ-loop
 loop-holds c =
-    let args = c .before .before .args in
-    (sym (length-fours (args .planes .now)), refl, sift-start)
-
-put-plane-requires : tie.Need-put-plane-requires Inv-loop μ-loop
-put-plane-requires c κs =
-    let loop = c .before .before .before .before .before .loop in
     let start : tie.Start Inv-loop μ-loop = search in
-    omega (arith, length-fours (loop .kept), length-fours (start .args .planes .now), loop .inv .2 .few)
+    (sym (length-fours (start .args .planes .now)), refl, sift-start)
 
-add-m : tie.Need-add-m Inv-loop μ-loop
-add-m c =
-    let loop = c .before .before .before .before .before .before .before .before .loop in
-    omega (arith, loop .inv .2 .few)
+has-place : tie.Need-put-plane-requires Inv-loop μ-loop
+has-place c κs =
+    let at : tie.At-loop Inv-loop μ-loop = search in
+    let start : tie.Start Inv-loop μ-loop = search in
+    omega (arith, length-fours (at .loop .kept), length-fours (start .args .planes .now), at .loop .inv .2 .few)
 
-loop-again : tie.Need-loop-again Inv-loop μ-loop
-loop-again c =
-    let put-plane = c .before .before .put-plane in
-    let if1 = c .before .before .before .before .if1 in
-    let plane-same-side = c .before .before .before .before .before .plane-same-side in
-    let plane-at = c .before .before .before .before .before .before .plane-at in
-    let loop = c .before .before .before .before .before .before .before .before .loop in (
-      loop .inv .0,
-      search needs,
-      sift-keep noPlane (loop .inv .2) (search needs) (plane-at .ensures)
-          (sym (plane-same-side .ensures) ∙ not-true _ (if1 .taken)) (put-plane .ensures),
+few-kept : tie.Need-add-m Inv-loop μ-loop
+few-kept c =
+    let at : tie.At-loop Inv-loop μ-loop = search in
+    omega (arith, at .loop .inv .2 .few)
+
+plane-kept : tie.Need-loop-again Inv-loop μ-loop
+plane-kept c =
+    let at : tie.At-loop Inv-loop μ-loop = search in
+    let read : tie.After-plane-at Inv-loop μ-loop = search in
+    let asked : tie.Then1 Inv-loop μ-loop = search in
+    let put : tie.After-put-plane Inv-loop μ-loop = search in
+    let inv = at .loop .inv in (
+      inv .0,
+      put .put-plane .kept .0 ∙ inv .1,
+      sift-keep noPlane (inv .2) (search needs) (read .plane-at .ensures)
+          (sym (asked .before .plane-same-side .ensures) ∙ not-true _ (asked .if1 .taken)) (put .put-plane .ensures),
     )
 
-loop-again-2 : tie.Need-loop-again-2 Inv-loop μ-loop
-loop-again-2 c =
-    let plane-at = c .before .before .plane-at in
-    let loop = c .before .before .before .before .loop in (
-      loop .inv .0,
-      loop .inv .1,
-      sift-drop noPlane (loop .inv .2) (search needs) (plane-at .ensures)
+plane-dropped : tie.Need-loop-again-2 Inv-loop μ-loop
+plane-dropped c =
+    let at : tie.At-loop Inv-loop μ-loop = search in
+    let read : tie.After-plane-at Inv-loop μ-loop = search in
+    let inv = at .loop .inv in (
+      inv .0,
+      inv .1,
+      sift-drop noPlane (inv .2) (search needs) (read .plane-at .ensures)
           (sym (c .before .plane-same-side .ensures) ∙ not-false _ (c .if1 .left)),
     )
 
@@ -65,11 +66,11 @@ same-length c = c .before .loop .inv .1
 
 returns : tie.Need-returns Inv-loop μ-loop
 returns c =
-    let loop = c .before .loop in
-    let args = c .before .before .before .before .args in
-    let done = sift-end (loop .inv .2) (search needs)
-    (omega (arith, length-fours (args .planes .now), length-fours (args .kept .now))) in
-    (done .0, (done .1, omega (arith, length-fours (args .planes .now), loop .inv .2 .few, loop .inv .2 .within)))
+    let start : tie.Start Inv-loop μ-loop = search in
+    let planes = length-fours (start .args .planes .now) in
+    let sifted = c .before .loop .inv .2 in
+    let done = sift-end sifted (search needs) (omega (arith, planes, length-fours (start .args .kept .now))) in
+    (done .0, (done .1, omega (arith, planes, sifted .few, sifted .within)))
 
 pub other-planes-spec : {M : Type 1} → statement M
 other-planes-spec =
@@ -79,11 +80,11 @@ other-planes-spec =
     μ-loop
     loop-holds
     (λ c κs. search needs) (λ c. search needs) (λ c κs. search needs)
-    put-plane-requires
-    add-m
+    has-place
+    few-kept
     (λ c. search needs)
-    loop-again
+    plane-kept
     (λ c. search needs)
-    loop-again-2
+    plane-dropped
     same-length
     returns)

@@ -7,14 +7,14 @@ use borrow.Author.Needs.{needs}
 use Rattle.overlap.proofs.own_part.Statement.{statement}
 use Rattle.overlap.proofs.own_part.Tie as tie
 
-returns : tie.Need-returns
-returns c =
+of-second : tie.Need-returns
+of-second c =
     let asked : tie.Then1 = search in
     let both = asked .before .args .both .now in
     rw (asked .if1 .taken) (to-the-end (length both - asked .before .args .n) both)
 
-returns-2 : tie.Need-returns-2
-returns-2 c =
+of-first : tie.Need-returns-2
+of-first c =
     let asked : tie.Else1 = search in
     rw (asked .if1 .left, sub-zero)
 
@@ -23,6 +23,6 @@ own-part-spec =
     tie.close
     (tie.spec
     (λ c. search needs) (λ c. search needs) (λ c. search needs) (λ c. search needs) (λ c. search needs)
-    returns
+    of-second
     (λ c. search needs) (λ c. search needs) (λ c. search needs)
-    returns-2)
+    of-first)

@@ -3,14 +3,14 @@ use borrow.Author.Needs.{needs}
 use Rattle.overlap.proofs.patch.Statement.{statement}
 use Rattle.overlap.proofs.patch.Tie as tie
 
-returns : tie.Need-returns
-returns c =
+of-second : tie.Need-returns
+of-second c =
     let asked : tie.Then1 = search in
     let left : tie.After-second-patch = search in
     rw (asked .if1 .taken) (left .second-patch .ensures)
 
-returns-2 : tie.Need-returns-2
-returns-2 c =
+of-first : tie.Need-returns-2
+of-first c =
     let asked : tie.Else1 = search in
     let left : tie.After-first-patch = search in
     rw (asked .if1 .left) (left .first-patch .ensures)
@@ -20,6 +20,6 @@ patch-spec =
     tie.close
     (tie.spec
     (λ c κs. search needs) (λ c. search needs) (λ c. search needs)
-    returns
+    of-second
     (λ c κs. search needs) (λ c. search needs) (λ c. search needs) (λ c. search needs)
-    returns-2)
+    of-first)

@@ -5,8 +5,8 @@ use borrow.Author.Needs.{needs}
 use Rattle.overlap.proofs.second_patch.Statement.{statement}
 use Rattle.overlap.proofs.second_patch.Tie as tie
 
-returns : tie.Need-returns
-returns c =
+skipped : tie.Need-returns
+skipped c =
     let start : tie.Start = search in
     patch-skipped true (start .args .m) (start .pre) (c .before .any-coplanar-skip .ensures) (c .if1 .taken)
 
@@ -16,20 +16,20 @@ clip-face-requires c κs =
     let pre = start .pre in
     (pre .inside, ((pre .few-corners, pre .few-planes), (pre .short-first, pre .short-second)))
 
-returns-2 : tie.Need-returns-2
-returns-2 c =
-    let clip-face = c .before .before .before .before .clip-face in
-    let if1 = c .before .before .before .before .before .before .before .if1 in
-    let any-coplanar-skip = c .before .before .before .before .before .before .before .before .any-coplanar-skip in
+clipped : tie.Need-returns-2
+clipped c =
     let start : tie.Start = search in
-    patch-clipped true (start .args .m) (start .pre) (any-coplanar-skip .ensures) (if1 .left) (clip-face .ensures)
+    let asked : tie.Else1 = search in
+    let left : tie.After-clip-face = search in
+    patch-clipped true (start .args .m) (start .pre) (asked .before .any-coplanar-skip .ensures) (asked .if1 .left)
+    (left .clip-face .ensures)
 
 pub second-patch-spec : {M : Type 1} → statement M
 second-patch-spec =
     tie.close
     (tie.spec
     (λ c κs. search needs)
-    returns
+    skipped
     clip-face-requires
     (λ c. search needs) (λ c. search needs)
-    returns-2)
+    clipped)

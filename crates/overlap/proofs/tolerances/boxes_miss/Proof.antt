@@ -5,20 +5,20 @@ use borrow.Author.Needs.{needs}
 use Rattle.overlap.proofs.tolerances.boxes_miss.Statement.{statement}
 use Rattle.overlap.proofs.tolerances.boxes_miss.Tie as tie
 
-returns : tie.Need-returns
+first-axis : tie.Need-returns
 unfolding boxesMiss apartAlong
-returns c = rw (← c .before .apart .ensures, c .if1 .taken)
+first-axis c = rw (← c .before .apart .ensures, c .if1 .taken)
 
-returns-2 : tie.Need-returns-2
+second-axis : tie.Need-returns-2
 unfolding boxesMiss apartAlong
-returns-2 c =
+second-axis c =
     let if1 = c .before .before .if1 in
     let apart = c .before .before .before .apart in
     rw (← apart .ensures, if1 .left, ← c .before .apart2 .ensures, c .if2 .taken)
 
-returns-3 : tie.Need-returns-3
+third-axis : tie.Need-returns-3
 unfolding boxesMiss apartAlong
-returns-3 c =
+third-axis c =
     let apart2 = c .before .before .apart2 in
     let if1 = c .before .before .before .if1 in
     let apart = c .before .before .before .before .apart in
@@ -31,8 +31,8 @@ boxes-miss-spec =
     (tie.spec
     (λ c. search needs) (λ c. search needs) (λ c. search needs) (λ c. search needs) (λ c. search needs) (λ c. search needs)
     (λ c. search needs) (λ c. search needs) (λ c κs. search needs)
-    returns
+    first-axis
     (λ c. search needs) (λ c. search needs) (λ c. search needs) (λ c. search needs) (λ c κs. search needs)
-    returns-2
+    second-axis
     (λ c. search needs) (λ c. search needs) (λ c. search needs) (λ c. search needs) (λ c κs. search needs)
-    returns-3)
+    third-axis)

@@ -35,6 +35,10 @@ module _ {size : ℕ} {read : List Float → List Point} (s : Reads size read) w
     pub room-first : room ≤ length (read a)
     room-first = rw (s .count a, e) (shorter-fits (length a / size) (length b / size) .0)
 
+    -- the first list may be written to before
+    pub room-still : (a′ : List Float) → length a′ ≡ length a → room ≤ length (read a′)
+    room-still a′ l = rw (same-count a a′ l) room-first
+
     pub room-second : room ≤ length (read b)
     room-second = rw (s .count b, e) (shorter-fits (length a / size) (length b / size) .1)
 

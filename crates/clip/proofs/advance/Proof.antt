@@ -15,11 +15,11 @@ use Rattle.clip.proofs.advance.Tie as tie
 
 under-three : tie.Need-returns
 under-three c =
-    let args = c .before .before .before .args in
-    none-few (args .eps) (search needs) (search needs) (c .if1 .taken)
+    let start : tie.Start = search in
+    none-few (start .args .eps) (search needs) (search needs) (c .if1 .taken)
 
-mul-shown : tie.Need-mul-shown
-mul-shown c =
+few-numbers : tie.Need-mul-shown
+few-numbers c =
     let start : tie.Start = search in
     omega (arith, length-threes (start .args .first .now))
 
@@ -68,7 +68,7 @@ advance-spec =
     tie.close
     (tie.spec
     under-three
-    mul-shown
+    few-numbers
     shown-requires
     (λ c κs. search needs) (λ c. search needs) (λ c. search needs)
     none-beyond

@@ -5,14 +5,14 @@ use native.Mathlib.Omega.{arith}
 use Rattle.flat.proofs.Corners.{length-corners}
 use Rattle.work_lists.proofs.Alternation.{clipped-full, clipped-run}
 use Rattle.work_lists.proofs.Endings.{reads-threes}
-use Rattle.work_lists.proofs.Stretches.{same-count, room-is, room-first, room-second}
+use Rattle.work_lists.proofs.Stretches.{room-is, room-first, room-still, room-second}
 use borrow.Author.Needs.{needs}
 use Rattle.clip.proofs.clip_face.Statement.{statement}
 use Rattle.clip.proofs.clip_face.Tie as tie
 
-returns : tie.Need-returns
+no-room : tie.Need-returns
 unfolding clipFaceOf
-returns c =
+no-room c =
     let start : tie.Start = search in
     let args = start .args in
     rw (room-is reads-threes (args .first .now) (args .second .now) (c .before .shorter .ensures))
@@ -20,7 +20,8 @@ returns c =
 
 gather-requires : tie.Need-gather-requires
 gather-requires c κs =
-    let shorter = c .before .before .shorter in
+    let fits : tie.Else1 = search in
+    let shorter = fits .before .shorter in
     let start : tie.Start = search in
     let args = start .args in (
       start .pre .0,
@@ -29,42 +30,35 @@ gather-requires c κs =
 
 run-requires : tie.Need-run-requires
 run-requires c κs =
-    let gather = c .before .before .before .before .gather in
-    let if1 = c .before .before .before .before .before .before .if1 in
-    let shorter = c .before .before .before .before .before .before .before .shorter in
+    let gathered : tie.After-gather = search in
+    let fits : tie.Else1 = search in
     let start : tie.Start = search in
-    let args = start .args in (
-      (rw (gather .kept .1 .1 .0) (search needs), search needs),
-      (
-        if1 .left,
-        omega (
-          arith,
-          same-count reads-threes (args .first .now) (gather .last .1 .1 .0) (gather .kept .1 .1 .0),
-          room-first reads-threes (args .first .now) (args .second .now) (shorter .ensures),
-        ),
-        room-second reads-threes (args .first .now) (args .second .now) (shorter .ensures),
-      ),
+    let first = start .args .first .now in
+    let second = start .args .second .now in
+    let shorter = fits .before .shorter .ensures in
+    let same = gathered .gather .kept .1 .1 .0 in (
+      (rw same (search needs), search needs),
+      (fits .if1 .left, room-still reads-threes first second shorter _ same, room-second reads-threes first second shorter),
     )
 
-returns-2 : tie.Need-returns-2
+clipped : tie.Need-returns-2
 unfolding clipFaceOf
-returns-2 c =
-    let run = c .before .before .before .before .run in
-    let record { before = _; gather = gather } : tie.After-gather = search in
-    let record { before = _; if1 = if1 } : tie.Else1 = search in
-    let record { before = _; shorter = shorter } : tie.After-shorter = search in
+clipped c =
+    let done : tie.After-run = search in
+    let gathered : tie.After-gather = search in
+    let fits : tie.Else1 = search in
     let start : tie.Start = search in
     let args = start .args in
-    rw (room-is reads-threes (args .first .now) (args .second .now) (shorter .ensures))
-    (clipped-run _ _ _ _ (rw length-corners (if1 .left)) (rw (gather .ensures) at (run .ensures)))
+    rw (room-is reads-threes (args .first .now) (args .second .now) (fits .before .shorter .ensures))
+    (clipped-run _ _ _ _ (rw length-corners (fits .if1 .left)) (rw (gathered .gather .ensures) at (done .run .ensures)))
 
 pub clip-face-spec : {M : Type 1} → statement M
 clip-face-spec =
     tie.close
     (tie.spec
     (λ c κs. search needs)
-    returns
+    no-room
     gather-requires
     run-requires
     (λ c. search needs) (λ c. search needs)
-    returns-2)
+    clipped)

@@ -8,15 +8,18 @@ use Rattle.clip.proofs.clip_face_shown.Tie as tie
 
 settle-answer-requires : tie.Need-settle-answer-requires
 settle-answer-requires c κs =
-    let clip-face = c .before .before .before .before .before .before .clip-face in
-    shown-fits reads-threes (clip-face .ensures)
+    let clipped : tie.After-clip-face = search in
+    shown-fits reads-threes (clipped .clip-face .ensures)
 
 returns : tie.Need-returns
 returns c =
-    let settle-answer = c .before .before .before .before .settle-answer in
-    let record { before = _; clip-face = clip-face } : tie.After-clip-face = search in
-    settled reads-threes (clip-face .ensures) (clip-face .kept .1 .1 .1 .1 .0) (clip-face .kept .1 .1 .1 .1 .1 .0)
-    (settle-answer .ensures .0) (settle-answer .ensures .1)
+    let cleared : tie.After-settle-answer = search in
+    let clipped : tie.After-clip-face = search in
+    let lists = clipped .clip-face .kept .1 .1 .1 .1 in
+    let first = lists .0 in
+    let second = lists .1 .0 in
+    settled reads-threes (clipped .clip-face .ensures) first second
+    (cleared .settle-answer .ensures .0) (cleared .settle-answer .ensures .1)
 
 pub clip-face-shown-spec : {M : Type 1} → statement M
 clip-face-shown-spec =

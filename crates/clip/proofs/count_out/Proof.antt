@@ -28,11 +28,12 @@ loop-holds c = (sym (length-threes (c .before .args .src .now)), count-start ref
 
 loop-again : tie.Need-loop-again Inv-loop μ-loop
 loop-again c =
-    let vertex = c .before .before .vertex in
-    let loop = c .before .before .before .before .loop in (
-      loop .inv .0,
-      count-next [] (loop .inv .1) (search needs)
-          (rw (← (vertex .ensures), ← (c .before .distance .ensures))
+    let measured : tie.After-distance Inv-loop μ-loop = search in
+    let at : tie.At-loop Inv-loop μ-loop = search in
+    let inv = at .loop .inv in (
+      inv .0,
+      count-next [] (inv .1) (search needs)
+          (rw (← measured .before .vertex .ensures, ← measured .distance .ensures)
           (⊎-elim (λ w. rw (w .0 .taken) (w .1)) (λ w. rw (w .0 .left, add-zero) (w .1)) (c .if1 .came))),
     )
 

@@ -11,57 +11,56 @@ use borrow.Author.Needs.{needs}
 use Rattle.clip.proofs.cut.Statement.{statement}
 use Rattle.clip.proofs.cut.Tie as tie
 
-returns : tie.Need-returns
-returns c =
-    let trim-by-plane = c .before .before .before .trim-by-plane in
-    cut-full (trim-by-plane .ensures) (c .if1 .taken)
+too-many : tie.Need-returns
+too-many c =
+    let trimmed : tie.After-trim-by-plane = search in
+    cut-full (trimmed .trim-by-plane .ensures) (c .if1 .taken)
 
-mul-remove-consecutive-duplicates : tie.Need-mul-remove-consecutive-duplicates
-mul-remove-consecutive-duplicates c =
+few-numbers : tie.Need-mul-remove-consecutive-duplicates
+few-numbers c =
     let start : tie.Start = search in
     omega (arith, length-threes (start .args .dst .now))
 
-part-remove-consecutive-duplicates-end : tie.Need-part-remove-consecutive-duplicates-end
-part-remove-consecutive-duplicates-end c =
+stretch-stands : tie.Need-part-remove-consecutive-duplicates-end
+stretch-stands c =
     let start : tie.Start = search in
     omega (arith, length-threes (start .args .dst .now))
 
 remove-consecutive-duplicates-requires : tie.Need-remove-consecutive-duplicates-requires
 remove-consecutive-duplicates-requires c κs = simp length-take (omega arith)
 
-returns-2 : tie.Need-returns-2
-returns-2 c =
-    let remove-consecutive-duplicates = c .before .before .before .remove-consecutive-duplicates in
-    let if1 = c .before .before .before .before .before .if1 in
-    let trim-by-plane = c .before .before .before .before .before .before .before .before .trim-by-plane in
-    cut-gone (trim-by-plane .last .1 .0) (remove-consecutive-duplicates .last .0) (trim-by-plane .ensures) (if1 .left)
-    (search needs) (rw sub-zero at (remove-consecutive-duplicates .ensures .0))
-    (rw sub-zero at (remove-consecutive-duplicates .ensures .1)) (c .if2 .taken)
+too-few : tie.Need-returns-2
+too-few c =
+    let left : tie.After-remove-consecutive-duplicates = search in
+    let fits : tie.Else1 = search in
+    let trimmed : tie.After-trim-by-plane = search in
+    let dropped = left .remove-consecutive-duplicates in
+    cut-gone (trimmed .trim-by-plane .last .1 .0) (dropped .last .0) (trimmed .trim-by-plane .ensures) (fits .if1 .left)
+    (search needs) (rw sub-zero at (dropped .ensures .0)) (rw sub-zero at (dropped .ensures .1)) (c .if2 .taken)
 
-returns-3 : tie.Need-returns-3
-returns-3 c =
-    let remove-consecutive-duplicates = c .before .before .before .remove-consecutive-duplicates in
-    let if1 = c .before .before .before .before .before .if1 in
-    let trim-by-plane = c .before .before .before .before .before .before .before .before .trim-by-plane in
+outline-left : tie.Need-returns-3
+outline-left c =
+    let left : tie.After-remove-consecutive-duplicates = search in
+    let fits : tie.Else1 = search in
+    let trimmed : tie.After-trim-by-plane = search in
     let start : tie.Start = search in
+    let dropped = left .remove-consecutive-duplicates in
     rw sub-zero
-    (cut-made (trim-by-plane .last .1 .0) (remove-consecutive-duplicates .last .0) (trim-by-plane .ensures) (if1 .left)
-    (search needs) (rw sub-zero at (remove-consecutive-duplicates .ensures .0))
-    (rw sub-zero at (remove-consecutive-duplicates .ensures .1)) (c .if2 .left)
-    (remove-consecutive-duplicates .kept .0 ∙
-    rw sub-zero (length-take-le _ _ (omega (arith, length-threes (start .args .dst .now))))))
+    (cut-made (trimmed .trim-by-plane .last .1 .0) (dropped .last .0) (trimmed .trim-by-plane .ensures) (fits .if1 .left)
+    (search needs) (rw sub-zero at (dropped .ensures .0)) (rw sub-zero at (dropped .ensures .1)) (c .if2 .left)
+    (dropped .kept .0 ∙ rw sub-zero (length-take-le _ _ (omega (arith, length-threes (start .args .dst .now))))))
 
 pub cut-spec : {M : Type 1} → statement M
 cut-spec =
     tie.close
     (tie.spec
     (λ c κs. search needs) (λ c. search needs)
-    returns
-    mul-remove-consecutive-duplicates
+    too-many
+    few-numbers
     (λ c. search needs) (λ c. search needs)
-    part-remove-consecutive-duplicates-end
+    stretch-stands
     remove-consecutive-duplicates-requires
     (λ c. search needs)
-    returns-2
+    too-few
     (λ c. search needs)
-    returns-3)
+    outline-left)

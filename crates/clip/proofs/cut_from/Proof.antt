@@ -9,69 +9,71 @@ use borrow.Author.Needs.{needs}
 use Rattle.clip.proofs.cut_from.Statement.{statement}
 use Rattle.clip.proofs.cut_from.Tie as tie
 
-mul-cut : tie.Need-mul-cut
-mul-cut c =
-    let args = c .before .before .before .args in
-    omega (arith, length-threes (args .second .now))
+few-of-second : tie.Need-mul-cut
+few-of-second c =
+    let start : tie.Start = search in
+    omega (arith, length-threes (start .args .second .now))
 
-part-cut-end : tie.Need-part-cut-end
-part-cut-end c =
-    let args = c .before .before .before .before .args in
-    reads-threes .fits (args .n) (args .second .now) (search needs)
+second-holds : tie.Need-part-cut-end
+second-holds c =
+    let start : tie.Start = search in
+    reads-threes .fits (start .args .n) (start .args .second .now) (search needs)
 
-cut-requires : tie.Need-cut-requires
-cut-requires c κs =
+cut-requires-of-second : tie.Need-cut-requires
+cut-requires-of-second c κs =
     let start : tie.Start = search in
     let args = start .args in
     (omega (arith, stretch-long reads-threes (args .n) (args .second .now) (search needs)), (simp length-take (search needs)))
 
-returns : tie.Need-returns
-returns c =
-    let cut = c .before .before .cut in
-    let if1 = c .before .before .before .before .before .before .if1 in
+second-read : tie.Need-returns
+second-read c =
+    let done : tie.After-cut = search in
+    let asked : tie.Then1 = search in
     let start : tie.Start = search in
     let args = start .args in
-    moved-to-first reads-threes (args .first .now) (args .second .now) (cut .last .1 .0) (if1 .taken) (cut .kept .1 .0)
-    (cut .ensures)
+    let left = done .cut in
+    moved-to-first reads-threes (args .first .now) (args .second .now) (left .last .1 .0) (asked .if1 .taken) (left .kept .1 .0)
+    (left .ensures)
 
-mul-cut-2 : tie.Need-mul-cut-2
-mul-cut-2 c =
-    let args = c .before .before .before .args in
-    omega (arith, length-threes (args .first .now))
+few-of-first : tie.Need-mul-cut-2
+few-of-first c =
+    let start : tie.Start = search in
+    omega (arith, length-threes (start .args .first .now))
 
-part-cut-end-2 : tie.Need-part-cut-end-2
-part-cut-end-2 c =
-    let args = c .before .before .before .before .args in
-    reads-threes .fits (args .n) (args .first .now) (search needs)
+first-holds : tie.Need-part-cut-end-2
+first-holds c =
+    let start : tie.Start = search in
+    reads-threes .fits (start .args .n) (start .args .first .now) (search needs)
 
-cut-requires-2 : tie.Need-cut-requires-2
-cut-requires-2 c κs =
+cut-requires-of-first : tie.Need-cut-requires-2
+cut-requires-of-first c κs =
     let start : tie.Start = search in
     let args = start .args in
     (omega (arith, stretch-long reads-threes (args .n) (args .first .now) (search needs)), (simp length-take (search needs)))
 
-returns-2 : tie.Need-returns-2
-returns-2 c =
-    let cut2 = c .before .before .cut2 in
-    let if1 = c .before .before .before .before .before .before .if1 in
+first-read : tie.Need-returns-2
+first-read c =
+    let done : tie.After-cut2 = search in
+    let asked : tie.Else1 = search in
     let start : tie.Start = search in
     let args = start .args in
-    moved-to-second reads-threes (args .first .now) (args .second .now) (cut2 .last .1 .0) (if1 .left) (cut2 .kept .1 .0)
-    (cut2 .ensures)
+    let left = done .cut2 in
+    moved-to-second reads-threes (args .first .now) (args .second .now) (left .last .1 .0) (asked .if1 .left) (left .kept .1 .0)
+    (left .ensures)
 
 pub cut-from-spec : {M : Type 1} → statement M
 cut-from-spec =
     tie.close
     (tie.spec
-    mul-cut
+    few-of-second
     (λ c. search needs) (λ c. search needs)
-    part-cut-end
-    cut-requires
+    second-holds
+    cut-requires-of-second
     (λ c. search needs) (λ c. search needs)
-    returns
-    mul-cut-2
+    second-read
+    few-of-first
     (λ c. search needs) (λ c. search needs)
-    part-cut-end-2
-    cut-requires-2
+    first-holds
+    cut-requires-of-first
     (λ c. search needs) (λ c. search needs)
-    returns-2)
+    first-read)

@@ -14,28 +14,28 @@ use Rattle.clip.proofs.gather.Tie as tie
 
 abbrev Inv-loop : tie.InvT-loop
 Inv-loop coords face dst₀ n i₀ dst i =
-    (n ≡ length face) × (length dst ≡ length dst₀) ×
+    (length dst ≡ length dst₀) ×
     Rest (cornersOf (verticesOf coords) face) (verticesOf dst₀) i (drop i (cornersOf (verticesOf coords) face)) (verticesOf dst)
 
 abbrev μ-loop : tie.MeasureT-loop
 μ-loop coords face dst₀ n i₀ dst i = n - i
 
 loop-holds : tie.Need-loop-holds Inv-loop μ-loop
-loop-holds c = (refl, refl, rest-start)
+loop-holds c = (refl, rest-start)
 
-put-vertex-requires : tie.Need-put-vertex-requires Inv-loop μ-loop
-put-vertex-requires c κs =
-    let loop = c .before .before .before .loop in
-    omega (arith, rest-length (loop .inv .2))
+has-place : tie.Need-put-vertex-requires Inv-loop μ-loop
+has-place c κs =
+    let at : tie.At-loop Inv-loop μ-loop = search in
+    omega (arith, rest-length (at .loop .inv .1))
 
 loop-again : tie.Need-loop-again Inv-loop μ-loop
 loop-again c =
-    let put-vertex = c .before .before .put-vertex in
-    let vertex-at = c .before .before .before .vertex-at in
-    let loop = c .before .before .before .before .before .before .loop in (
-      loop .inv .0,
-      put-vertex .kept .0 ∙ loop .inv .1,
-      lay-next [] (loop .inv .2) (rw length-corners (search needs)) (vertex-at .ensures) (put-vertex .ensures .0),
+    let put : tie.After-put-vertex Inv-loop μ-loop = search in
+    let read : tie.After-vertex-at Inv-loop μ-loop = search in
+    let at : tie.At-loop Inv-loop μ-loop = search in
+    let inv = at .loop .inv in (
+      put .put-vertex .kept .0 ∙ inv .0,
+      lay-next [] (inv .1) (rw length-corners (search needs)) (read .vertex-at .ensures) (put .put-vertex .ensures .0),
     )
 
 returns : tie.Need-returns Inv-loop μ-loop
@@ -43,7 +43,7 @@ returns c =
     let start : tie.Start Inv-loop μ-loop = search in
     let args = start .args in
     rw (← length-corners (verticesOf (args .coords .now)) (args .face .now))
-    (lay-end (c .before .loop .inv .2) (rw length-corners (search needs)) (rw length-corners (search needs)))
+    (lay-end (c .before .loop .inv .1) (rw length-corners (search needs)) (rw length-corners (search needs)))
 
 pub gather-spec : {M : Type 1} → statement M
 gather-spec =
@@ -53,7 +53,7 @@ gather-spec =
     μ-loop
     loop-holds
     (λ c κs. search needs)
-    put-vertex-requires
+    has-place
     (λ c. search needs) (λ c. search needs)
     loop-again
     (λ c. search needs)

@@ -33,49 +33,51 @@ loop-holds c =
 
 stays-whole : tie.Need-loop-again Inv-loop μ-loop
 stays-whole c =
-    let advance = c .before .before .before .before .before .before .advance in
-    let record { before = _; plane-at = plane-at } : tie.After-plane-at Inv-loop μ-loop = search in
-    let record { before = _; loop = loop } : tie.At-loop Inv-loop μ-loop = search in (
-      loop .inv .0,
-      alternate-kept (loop .inv .1) noPlane (search needs) (plane-at .ensures) (advance .kept .0) (advance .kept .1 .0)
-          (rw (c .enum-told .given .1) at (advance .ensures)),
+    let done : tie.After-advance Inv-loop μ-loop = search in
+    let found : tie.After-plane-at Inv-loop μ-loop = search in
+    let at : tie.At-loop Inv-loop μ-loop = search in
+    let inv = at .loop .inv in (
+      inv .0,
+      alternate-kept (inv .1) noPlane (search needs) (found .plane-at .ensures) (done .advance .kept .0) (done .advance .kept .1 .0)
+          (rw (c .enum-told .given .1) at (done .advance .ensures)),
     )
 
 nothing-left : tie.Need-returns Inv-loop μ-loop
 nothing-left c =
-    let advance = c .before .before .before .before .before .before .advance in
-    let record { before = _; plane-at = plane-at } : tie.After-plane-at Inv-loop μ-loop = search in
-    let record { before = _; loop = loop } : tie.At-loop Inv-loop μ-loop = search in
-    alternate-gone (loop .inv .1) noPlane (search needs) (plane-at .ensures)
-    (rw (c .enum-told2 .given .1) at (advance .ensures))
+    let done : tie.After-advance Inv-loop μ-loop = search in
+    let found : tie.After-plane-at Inv-loop μ-loop = search in
+    let at : tie.At-loop Inv-loop μ-loop = search in
+    alternate-gone (at .loop .inv .1) noPlane (search needs) (found .plane-at .ensures)
+    (rw (c .enum-told2 .given .1) at (done .advance .ensures))
 
 no-room : tie.Need-returns-2 Inv-loop μ-loop
 no-room c =
-    let advance = c .before .before .before .before .before .before .advance in
-    let record { before = _; plane-at = plane-at } : tie.After-plane-at Inv-loop μ-loop = search in
-    let record { before = _; loop = loop } : tie.At-loop Inv-loop μ-loop = search in
-    alternate-full (loop .inv .1) noPlane (search needs) (plane-at .ensures)
-    (rw (c .enum-told3 .given .1) at (advance .ensures))
+    let done : tie.After-advance Inv-loop μ-loop = search in
+    let found : tie.After-plane-at Inv-loop μ-loop = search in
+    let at : tie.At-loop Inv-loop μ-loop = search in
+    alternate-full (at .loop .inv .1) noPlane (search needs) (found .plane-at .ensures)
+    (rw (c .enum-told3 .given .1) at (done .advance .ensures))
 
 goes-on : tie.Need-loop-again-2 Inv-loop μ-loop
 goes-on c =
-    let advance = c .before .before .before .before .before .before .before .advance in
-    let record { before = _; plane-at = plane-at } : tie.After-plane-at Inv-loop μ-loop = search in
-    let record { before = _; loop = loop } : tie.At-loop Inv-loop μ-loop = search in (
-      loop .inv .0,
-      alternate-made (loop .inv .1) noPlane (search needs) (plane-at .ensures) (advance .kept .0) (advance .kept .1 .0)
-          (rw (c .before .left .given .1) at (advance .ensures)),
+    let done : tie.After-advance Inv-loop μ-loop = search in
+    let found : tie.After-plane-at Inv-loop μ-loop = search in
+    let at : tie.At-loop Inv-loop μ-loop = search in
+    let inv = at .loop .inv in (
+      inv .0,
+      alternate-made (inv .1) noPlane (search needs) (found .plane-at .ensures) (done .advance .kept .0) (done .advance .kept .1 .0)
+          (rw (c .before .left .given .1) at (done .advance .ensures)),
     )
 
 no-points : tie.Need-returns-3 Inv-loop μ-loop
 no-points c =
-    let loop = c .before .before .loop in
-    alternate-none (loop .inv .1) (search needs) (c .if1 .taken)
+    let at : tie.At-loop Inv-loop μ-loop = search in
+    alternate-none (at .loop .inv .1) (search needs) (c .if1 .taken)
 
 outline-left : tie.Need-returns-4 Inv-loop μ-loop
 outline-left c =
-    let loop = c .before .before .loop in
-    alternate-end (loop .inv .1) (search needs) (c .if1 .left)
+    let at : tie.At-loop Inv-loop μ-loop = search in
+    alternate-end (at .loop .inv .1) (search needs) (c .if1 .left)
 
 pub run-spec : {M : Type 1} → statement M
 run-spec =
@@ -86,19 +88,13 @@ run-spec =
     loop-holds
     (λ c κs. search needs) (λ c. search needs) (λ c κs. search needs) (λ c. search needs) (λ c. search needs)
     stays-whole
-    (λ c. search needs)
-    (λ c. search needs)
-    (λ c. search needs)
+    (λ c. search needs) (λ c. search needs) (λ c. search needs)
     nothing-left
-    (λ c. search needs)
-    (λ c. search needs)
-    (λ c. search needs)
+    (λ c. search needs) (λ c. search needs) (λ c. search needs)
     no-room
     (λ c. search needs) (λ c. search needs)
     goes-on
-    (λ c. search needs)
-    (λ c. search needs)
+    (λ c. search needs) (λ c. search needs)
     no-points
-    (λ c. search needs)
-    (λ c. search needs)
+    (λ c. search needs) (λ c. search needs)
     outline-left)

@@ -10,42 +10,43 @@ use borrow.Author.Needs.{needs}
 use Rattle.planar.proofs.advance.Statement.{statement}
 use Rattle.planar.proofs.advance.Tie as tie
 
-returns : tie.Need-returns
+under-three : tie.Need-returns
 unfolding edgeChange
-returns c =
-    let args = c .before .before .before .args in
-    rw (length-pairs (args .src .now), lt-ltb _ _ (c .if1 .taken)) shows-gone
+under-three c =
+    let start : tie.Start = search in
+    rw (length-pairs (start .args .src .now), lt-ltb _ _ (c .if1 .taken)) shows-gone
 
 trim-at-edge-requires : tie.Need-trim-at-edge-requires
 trim-at-edge-requires c κs =
-    let args = c .before .before .before .before .args in
-    (omega (arith, length-pairs (args .src .now)), search needs)
-
-returns-2 : tie.Need-returns-2
-unfolding edgeChange
-returns-2 c =
-    let trim-at-edge = c .before .before .before .trim-at-edge in
-    let if1 = c .before .before .before .before .before .if1 in
     let start : tie.Start = search in
-    rw (length-pairs (start .args .src .now), le-ltb _ _ (if1 .left), filled-over (trim-at-edge .ensures) (c .if2 .taken))
-    shows-full
+    (omega (arith, length-pairs (start .args .src .now)), search needs)
 
-returns-3 : tie.Need-returns-3
+no-room : tie.Need-returns-2
 unfolding edgeChange
-returns-3 c =
-    let trim-at-edge = c .before .before .before .trim-at-edge in
-    let if1 = c .before .before .before .before .before .if1 in
+no-room c =
+    let trimmed : tie.After-trim-at-edge = search in
+    let three : tie.Else1 = search in
     let start : tie.Start = search in
-    rw (length-pairs (start .args .src .now), le-ltb _ _ (if1 .left), filled-within (trim-at-edge .ensures) (c .if2 .left))
-    (shows-made (c .if2 .left) (filled-read (trim-at-edge .ensures) (search needs)))
+    let laid = trimmed .trim-at-edge .ensures in
+    rw (length-pairs (start .args .src .now), le-ltb _ _ (three .if1 .left), filled-over laid (c .if2 .taken)) shows-full
+
+outline-left : tie.Need-returns-3
+unfolding edgeChange
+outline-left c =
+    let trimmed : tie.After-trim-at-edge = search in
+    let three : tie.Else1 = search in
+    let start : tie.Start = search in
+    let laid = trimmed .trim-at-edge .ensures in
+    rw (length-pairs (start .args .src .now), le-ltb _ _ (three .if1 .left), filled-within laid (c .if2 .left))
+    (shows-made (c .if2 .left) (filled-read laid (search needs)))
 
 pub advance-spec : {M : Type 1} → statement M
 advance-spec =
     tie.close
     (tie.spec
-    returns
+    under-three
     trim-at-edge-requires
     (λ c. search needs)
-    returns-2
+    no-room
     (λ c. search needs)
-    returns-3)
+    outline-left)

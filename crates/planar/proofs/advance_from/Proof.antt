@@ -9,63 +9,65 @@ use borrow.Author.Needs.{needs}
 use Rattle.planar.proofs.advance_from.Statement.{statement}
 use Rattle.planar.proofs.advance_from.Tie as tie
 
-mul-advance : tie.Need-mul-advance
-mul-advance c =
-    let args = c .before .before .before .args in
-    omega (arith, length-pairs (args .second .now))
+few-of-second : tie.Need-mul-advance
+few-of-second c =
+    let start : tie.Start = search in
+    omega (arith, length-pairs (start .args .second .now))
 
-part-advance-end : tie.Need-part-advance-end
-part-advance-end c =
-    let args = c .before .before .before .before .args in
-    reads-pairs .fits (args .n) (args .second .now) (search needs)
+second-holds : tie.Need-part-advance-end
+second-holds c =
+    let start : tie.Start = search in
+    reads-pairs .fits (start .args .n) (start .args .second .now) (search needs)
 
-advance-requires : tie.Need-advance-requires
-advance-requires c κs = simp length-take (search needs)
+advance-requires-of-second : tie.Need-advance-requires
+advance-requires-of-second c κs = simp length-take (search needs)
 
-returns : tie.Need-returns
-returns c =
-    let advance = c .before .before .advance in
-    let if1 = c .before .before .before .before .before .before .if1 in
+second-read : tie.Need-returns
+second-read c =
+    let done : tie.After-advance = search in
+    let asked : tie.Then1 = search in
     let start : tie.Start = search in
     let args = start .args in
-    moved-to-first reads-pairs (args .first .now) (args .second .now) (advance .last .1 .0) (if1 .taken) (advance .kept .1 .0)
-    (advance .ensures)
+    let left = done .advance in
+    moved-to-first reads-pairs (args .first .now) (args .second .now) (left .last .1 .0) (asked .if1 .taken) (left .kept .1 .0)
+    (left .ensures)
 
-mul-advance-2 : tie.Need-mul-advance-2
-mul-advance-2 c =
-    let args = c .before .before .before .args in
-    omega (arith, length-pairs (args .first .now))
+few-of-first : tie.Need-mul-advance-2
+few-of-first c =
+    let start : tie.Start = search in
+    omega (arith, length-pairs (start .args .first .now))
 
-part-advance-end-2 : tie.Need-part-advance-end-2
-part-advance-end-2 c =
-    let args = c .before .before .before .before .args in
-    reads-pairs .fits (args .n) (args .first .now) (search needs)
+first-holds : tie.Need-part-advance-end-2
+first-holds c =
+    let start : tie.Start = search in
+    reads-pairs .fits (start .args .n) (start .args .first .now) (search needs)
 
-advance-requires-2 : tie.Need-advance-requires-2
-advance-requires-2 c κs = simp length-take (search needs)
+advance-requires-of-first : tie.Need-advance-requires-2
+advance-requires-of-first c κs = simp length-take (search needs)
 
-returns-2 : tie.Need-returns-2
-returns-2 c =
-    let advance2 = c .before .before .advance2 in
-    let if1 = c .before .before .before .before .before .before .if1 in
+first-read : tie.Need-returns-2
+first-read c =
+    let done : tie.After-advance2 = search in
+    let asked : tie.Else1 = search in
     let start : tie.Start = search in
     let args = start .args in
-    moved-to-second reads-pairs (args .first .now) (args .second .now) (advance2 .last .1 .0) (if1 .left) (advance2 .kept .1 .0)
-    (advance2 .ensures)
+    let left = done .advance2 in
+    moved-to-second reads-pairs (args .first .now) (args .second .now) (left .last .1 .0) (asked .if1 .left) (left .kept .1 .0)
+    (left .ensures)
 
 pub advance-from-spec : {M : Type 1} → statement M
 advance-from-spec =
     tie.close
     (tie.spec
-    mul-advance
+    few-of-second
     (λ c. search needs) (λ c. search needs)
-    part-advance-end
-    advance-requires
+    second-holds
+    advance-requires-of-second
     (λ c. search needs) (λ c. search needs)
-    returns
-    mul-advance-2
+    second-read
+    few-of-first
     (λ c. search needs) (λ c. search needs)
-    part-advance-end-2
-    advance-requires-2
+    first-holds
+    advance-requires-of-first
     (λ c. search needs) (λ c. search needs)
-    returns-2)
+    first-read)

@@ -4,15 +4,15 @@ use native.Mathlib.Omega.{arith}
 use Rattle.places.proofs.Stored.{length-pairs}
 use Rattle.work_lists.proofs.Alternation.{clipped-full, clipped-run}
 use Rattle.work_lists.proofs.Endings.{reads-pairs}
-use Rattle.work_lists.proofs.Stretches.{same-count, room-is, room-first, room-second}
+use Rattle.work_lists.proofs.Stretches.{room-is, room-first, room-still, room-second}
 use Rattle.planar.specs.Planar.{clipConvexOf}
 use borrow.Author.Needs.{needs}
 use Rattle.planar.proofs.clip_convex.Statement.{statement}
 use Rattle.planar.proofs.clip_convex.Tie as tie
 
-returns : tie.Need-returns
+no-room : tie.Need-returns
 unfolding clipConvexOf
-returns c =
+no-room c =
     let start : tie.Start = search in
     let args = start .args in
     rw (room-is reads-pairs (args .first .now) (args .second .now) (c .before .shorter .ensures))
@@ -20,7 +20,8 @@ returns c =
 
 gather-requires : tie.Need-gather-requires
 gather-requires c κs =
-    let shorter = c .before .before .shorter in
+    let fits : tie.Else1 = search in
+    let shorter = fits .before .shorter in
     let start : tie.Start = search in
     let args = start .args in (
       omega (
@@ -33,43 +34,36 @@ gather-requires c κs =
 
 run-requires : tie.Need-run-requires
 run-requires c κs =
-    let gather = c .before .before .before .before .gather in
-    let if1 = c .before .before .before .before .before .before .if1 in
-    let shorter = c .before .before .before .before .before .before .before .shorter in
+    let gathered : tie.After-gather = search in
+    let fits : tie.Else1 = search in
     let start : tie.Start = search in
-    let args = start .args in (
-      (rw (gather .kept .1 .0) (search needs), search needs),
-      (
-        if1 .left,
-        omega (
-          arith,
-          same-count reads-pairs (args .first .now) (gather .last .1 .0) (gather .kept .1 .0),
-          room-first reads-pairs (args .first .now) (args .second .now) (shorter .ensures),
-        ),
-        room-second reads-pairs (args .first .now) (args .second .now) (shorter .ensures),
-      ),
+    let first = start .args .first .now in
+    let second = start .args .second .now in
+    let shorter = fits .before .shorter .ensures in
+    let same = gathered .gather .kept .1 .0 in (
+      (rw same (search needs), search needs),
+      (fits .if1 .left, room-still reads-pairs first second shorter _ same, room-second reads-pairs first second shorter),
     )
 
-returns-2 : tie.Need-returns-2
+clipped : tie.Need-returns-2
 unfolding clipConvexOf
-returns-2 c =
-    let run = c .before .before .before .before .run in
-    let record { before = _; gather = gather } : tie.After-gather = search in
-    let record { before = _; if1 = if1 } : tie.Else1 = search in
-    let record { before = _; shorter = shorter } : tie.After-shorter = search in
+clipped c =
+    let done : tie.After-run = search in
+    let gathered : tie.After-gather = search in
+    let fits : tie.Else1 = search in
     let start : tie.Start = search in
     let args = start .args in
-    rw (room-is reads-pairs (args .first .now) (args .second .now) (shorter .ensures))
-    (clipped-run _ _ _ _ (rw length-pairs (if1 .left))
-    (rw (rw (length-pairs (args .subject .now)) at (gather .ensures)) at (run .ensures)))
+    rw (room-is reads-pairs (args .first .now) (args .second .now) (fits .before .shorter .ensures))
+    (clipped-run _ _ _ _ (rw length-pairs (fits .if1 .left))
+    (rw (rw (length-pairs (args .subject .now)) at (gathered .gather .ensures)) at (done .run .ensures)))
 
 pub clip-convex-spec : {M : Type 1} → statement M
 clip-convex-spec =
     tie.close
     (tie.spec
     (λ c κs. search needs)
-    returns
+    no-room
     gather-requires
     run-requires
     (λ c. search needs) (λ c. search needs)
-    returns-2)
+    clipped)

@@ -8,15 +8,18 @@ use Rattle.planar.proofs.clip_convex_shown.Tie as tie
 
 settle-answer-requires : tie.Need-settle-answer-requires
 settle-answer-requires c κs =
-    let clip-convex = c .before .before .before .before .before .before .clip-convex in
-    shown-fits reads-pairs (clip-convex .ensures)
+    let clipped : tie.After-clip-convex = search in
+    shown-fits reads-pairs (clipped .clip-convex .ensures)
 
 returns : tie.Need-returns
 returns c =
-    let settle-answer = c .before .before .before .before .settle-answer in
-    let record { before = _; clip-convex = clip-convex } : tie.After-clip-convex = search in
-    settled reads-pairs (clip-convex .ensures) (clip-convex .kept .1 .1 .0) (clip-convex .kept .1 .1 .1 .0)
-    (settle-answer .ensures .0) (settle-answer .ensures .1)
+    let cleared : tie.After-settle-answer = search in
+    let clipped : tie.After-clip-convex = search in
+    let lists = clipped .clip-convex .kept .1 .1 in
+    let first = lists .0 in
+    let second = lists .1 .0 in
+    settled reads-pairs (clipped .clip-convex .ensures) first second
+    (cleared .settle-answer .ensures .0) (cleared .settle-answer .ensures .1)
 
 pub clip-convex-shown-spec : {M : Type 1} → statement M
 clip-convex-shown-spec =

@@ -7,50 +7,51 @@ use borrow.Author.Needs.{needs}
 use Rattle.planar.proofs.convex_intersection_area.Statement.{statement}
 use Rattle.planar.proofs.convex_intersection_area.Tie as tie
 
-mul-shown : tie.Need-mul-shown
-mul-shown c =
-    let n = c .before .before .before .n in
-    let record { before = _; clip-convex = clip-convex } : tie.After-clip-convex = search in
-    omega (
-      arith,
-      outline-small reads-pairs (rw (n .given .1) at (clip-convex .ensures)) {k = 3072}
-          (omega (arith, clip-convex .kept .1 .1 .0)) (omega (arith, clip-convex .kept .1 .1 .1 .0)),
-    )
+few-numbers : tie.Need-mul-shown
+few-numbers c =
+    let told : tie.After-n = search in
+    let clipped : tie.After-clip-convex = search in
+    let ended = rw (told .n .given .1) at (clipped .clip-convex .ensures) in
+    let lists = clipped .clip-convex .kept .1 .1 in
+    let first = lists .0 in
+    let second = lists .1 .0 in
+    omega (arith, outline-small reads-pairs ended {k = 3072} (omega arith) (omega arith))
 
 shown-requires : tie.Need-shown-requires
 shown-requires c κs =
-    let n = c .before .before .before .n in
-    let record { before = _; clip-convex = clip-convex } : tie.After-clip-convex = search in
-    outline-fits reads-pairs (rw (n .given .1) at (clip-convex .ensures))
+    let told : tie.After-n = search in
+    let clipped : tie.After-clip-convex = search in
+    outline-fits reads-pairs (rw (told .n .given .1) at (clipped .clip-convex .ensures))
 
-returns : tie.Need-returns
-returns c =
-    let clip-convex = c .before .before .before .before .before .before .clip-convex in
-    area-none (rw (c .enum-told .given .1) at (clip-convex .ensures))
+nothing-left : tie.Need-returns
+nothing-left c =
+    let clipped : tie.After-clip-convex = search in
+    area-none (rw (c .enum-told .given .1) at (clipped .clip-convex .ensures))
 
-returns-2 : tie.Need-returns-2
-returns-2 c =
-    let shown = c .before .before .shown in
-    let n = c .before .before .before .before .before .before .n in
-    let record { before = _; clip-convex = clip-convex } : tie.After-clip-convex = search in
-    area-shown (clip-convex .last .1 .1 .0) (clip-convex .last .1 .1 .1 .0) (rw (n .given .1) at (clip-convex .ensures))
-    (shown .ensures) (c .before .signed-area2 .ensures) (c .magnitude .ensures)
+outline-left : tie.Need-returns-2
+outline-left c =
+    let measured : tie.After-signed-area2 = search in
+    let told : tie.After-n = search in
+    let clipped : tie.After-clip-convex = search in
+    let lists = clipped .clip-convex .last .1 .1 in
+    area-shown (lists .0) (lists .1 .0) (rw (told .n .given .1) at (clipped .clip-convex .ensures))
+    (measured .before .shown .ensures) (measured .signed-area2 .ensures) (c .magnitude .ensures)
 
-returns-3 : tie.Need-returns-3
-returns-3 c =
-    let clip-convex = c .before .before .before .before .before .before .clip-convex in
-    area-refused (rw (c .enum-told2 .given .1) at (clip-convex .ensures))
+no-room : tie.Need-returns-3
+no-room c =
+    let clipped : tie.After-clip-convex = search in
+    area-refused (rw (c .enum-told2 .given .1) at (clipped .clip-convex .ensures))
 
 pub convex-intersection-area-spec : {M : Type 1} → statement M
 convex-intersection-area-spec =
     tie.close
     (tie.spec
     (λ c κs. search needs) (λ c. search needs) (λ c. search needs)
-    mul-shown
+    few-numbers
     shown-requires
     (λ c κs. search needs) (λ c κs. search needs) (λ c. search needs) (λ c. search needs) (λ c. search needs)
-    returns
+    nothing-left
     (λ c. search needs) (λ c. search needs)
-    returns-2
+    outline-left
     (λ c. search needs) (λ c. search needs)
-    returns-3)
+    no-room)

@@ -22,22 +22,23 @@ abbrev μ-loop : tie.MeasureT-loop
 
 loop-holds : tie.Need-loop-holds Inv-loop μ-loop
 loop-holds c =
-    let args = c .before .before .args in
-    (sym (length-pairs (args .src .now)), refl, rest-start)
+    let start : tie.Start Inv-loop μ-loop = search in
+    (sym (length-pairs (start .args .src .now)), refl, rest-start)
 
-put-pair-requires : tie.Need-put-pair-requires Inv-loop μ-loop
-put-pair-requires c κs =
-    let loop = c .before .before .before .loop in
-    omega (arith, rest-length (loop .inv .2))
+has-place : tie.Need-put-pair-requires Inv-loop μ-loop
+has-place c κs =
+    let at : tie.At-loop Inv-loop μ-loop = search in
+    omega (arith, rest-length (at .loop .inv .2))
 
 loop-again : tie.Need-loop-again Inv-loop μ-loop
 loop-again c =
-    let put-pair = c .before .before .put-pair in
-    let pair = c .before .before .before .pair in
-    let loop = c .before .before .before .before .before .before .loop in (
-      loop .inv .0,
-      put-pair .kept .0 ∙ loop .inv .1,
-      lay-next [] (loop .inv .2) (search needs) (pair .ensures) (put-pair .ensures .0),
+    let put : tie.After-put-pair Inv-loop μ-loop = search in
+    let read : tie.After-pair Inv-loop μ-loop = search in
+    let at : tie.At-loop Inv-loop μ-loop = search in
+    let inv = at .loop .inv in (
+      inv .0,
+      put .put-pair .kept .0 ∙ inv .1,
+      lay-next [] (inv .2) (search needs) (read .pair .ensures) (put .put-pair .ensures .0),
     )
 
 returns : tie.Need-returns Inv-loop μ-loop
@@ -51,7 +52,7 @@ gather-spec =
     μ-loop
     loop-holds
     (λ c κs. search needs)
-    put-pair-requires
+    has-place
     (λ c. search needs) (λ c. search needs)
     loop-again
     (λ c. search needs)

@@ -49,36 +49,36 @@ stays-whole : tie.Need-loop-again Inv-loop μ-loop
 stays-whole c =
     let at : tie.At-loop Inv-loop μ-loop = search in
     let read : tie.After-pair2 Inv-loop μ-loop = search in
-    let record { before = _; advance-from = advance-from } : tie.After-advance-from Inv-loop μ-loop = search in (
+    let done : tie.After-advance-from Inv-loop μ-loop = search in (
       at .loop .inv .0,
-      alternate-kept (at .loop .inv .1) ([], []) (rw length-sides (search needs)) (edge read) (advance-from .kept .0)
-          (advance-from .kept .1 .0) (rw (c .enum-told .given .1) at (advance-from .ensures)),
+      alternate-kept (at .loop .inv .1) ([], []) (rw length-sides (search needs)) (edge read) (done .advance-from .kept .0)
+          (done .advance-from .kept .1 .0) (rw (c .enum-told .given .1) at (done .advance-from .ensures)),
     )
 
 nothing-left : tie.Need-returns Inv-loop μ-loop
 nothing-left c =
     let at : tie.At-loop Inv-loop μ-loop = search in
     let read : tie.After-pair2 Inv-loop μ-loop = search in
-    let record { before = _; advance-from = advance-from } : tie.After-advance-from Inv-loop μ-loop = search in
+    let done : tie.After-advance-from Inv-loop μ-loop = search in
     alternate-gone (at .loop .inv .1) ([], []) (rw length-sides (search needs)) (edge read)
-    (rw (c .enum-told2 .given .1) at (advance-from .ensures))
+    (rw (c .enum-told2 .given .1) at (done .advance-from .ensures))
 
 no-room : tie.Need-returns-2 Inv-loop μ-loop
 no-room c =
     let at : tie.At-loop Inv-loop μ-loop = search in
     let read : tie.After-pair2 Inv-loop μ-loop = search in
-    let record { before = _; advance-from = advance-from } : tie.After-advance-from Inv-loop μ-loop = search in
+    let done : tie.After-advance-from Inv-loop μ-loop = search in
     alternate-full (at .loop .inv .1) ([], []) (rw length-sides (search needs)) (edge read)
-    (rw (c .enum-told3 .given .1) at (advance-from .ensures))
+    (rw (c .enum-told3 .given .1) at (done .advance-from .ensures))
 
 goes-on : tie.Need-loop-again-2 Inv-loop μ-loop
 goes-on c =
     let at : tie.At-loop Inv-loop μ-loop = search in
     let read : tie.After-pair2 Inv-loop μ-loop = search in
-    let record { before = _; advance-from = advance-from } : tie.After-advance-from Inv-loop μ-loop = search in (
+    let done : tie.After-advance-from Inv-loop μ-loop = search in (
       at .loop .inv .0,
-      alternate-made (at .loop .inv .1) ([], []) (rw length-sides (search needs)) (edge read) (advance-from .kept .0)
-          (advance-from .kept .1 .0) (rw (c .before .left .given .1) at (advance-from .ensures)),
+      alternate-made (at .loop .inv .1) ([], []) (rw length-sides (search needs)) (edge read) (done .advance-from .kept .0)
+          (done .advance-from .kept .1 .0) (rw (c .before .left .given .1) at (done .advance-from .ensures)),
     )
 
 no-points : tie.Need-returns-3 Inv-loop μ-loop
@@ -101,19 +101,13 @@ run-spec =
     (λ c κs. search needs) (λ c κs. search needs) (λ c κs. search needs) (λ c. search needs) (λ c κs. search needs)
     (λ c. search needs) (λ c. search needs)
     stays-whole
-    (λ c. search needs)
-    (λ c. search needs)
-    (λ c. search needs)
+    (λ c. search needs) (λ c. search needs) (λ c. search needs)
     nothing-left
-    (λ c. search needs)
-    (λ c. search needs)
-    (λ c. search needs)
+    (λ c. search needs) (λ c. search needs) (λ c. search needs)
     no-room
     (λ c. search needs) (λ c. search needs)
     goes-on
-    (λ c. search needs)
-    (λ c. search needs)
+    (λ c. search needs) (λ c. search needs)
     no-points
-    (λ c. search needs)
-    (λ c. search needs)
+    (λ c. search needs) (λ c. search needs)
     outline-left)

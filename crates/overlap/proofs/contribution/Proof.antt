@@ -14,7 +14,7 @@ use Rattle.overlap.proofs.contribution.Tie as tie
 
 abbrev Inv-loop : tie.InvT-loop
 Inv-loop s reference n p a₀ v₀ i₀ a v i =
-    (n ≡ length (verticesOf s)) × (p ≡ minusOf 3 (getD (verticesOf s) 0 []) reference) ×
+    (n ≡ length (verticesOf s)) ×
     Fanning reference (getD (verticesOf s) 0 []) (verticesOf s) (fanOf reference (verticesOf s)) i a v
 
 abbrev μ-loop : tie.MeasureT-loop
@@ -39,20 +39,20 @@ loop-holds : tie.Need-loop-holds Inv-loop μ-loop
 loop-holds c =
     let start : tie.Start Inv-loop μ-loop = search in
     let args = start .args in
-    (sym (length-threes (args .s .now)), cc, fan-start (omega (arith, length-threes (args .s .now))) (cc))
+    (sym (length-threes (args .s .now)), fan-start (omega (arith, length-threes (args .s .now))) (cc))
 
 loop-again : tie.Need-loop-again Inv-loop μ-loop
 loop-again c =
     let at : tie.At-loop Inv-loop μ-loop = search in
     let loop = at .loop in
-    (loop .inv .0, loop .inv .1, fan-next (loop .inv .2) (search needs) (cc) (cc))
+    (loop .inv .0, fan-next (loop .inv .1) (search needs) (cc) (cc))
 
 whole-fan : tie.Need-returns-2 Inv-loop μ-loop
 whole-fan c =
     let loop = c .before .loop in
     let start : tie.Start Inv-loop μ-loop = search in
     let args = start .args in
-    rw (fan-end (loop .inv .2) (omega (arith, loop .inv .0)))
+    rw (fan-end (loop .inv .1) (omega (arith, loop .inv .0)))
     (contribution-is (args .reference) _ (omega (arith, length-threes (args .s .now))))
 
 pub contribution-spec : {M : Type 1} → statement M

@@ -1,11 +1,10 @@
 -- `clip::count_out` meets its contract: the points beyond the plane among those before place i, and those that are left to count, make the
 -- whole count.
 use native.Mathlib.Nat.{add-zero}
-use mathlib.Core.Path.{_≡_, refl, sym}
+use mathlib.Core.Path.{refl}
 use mathlib.Core.Logic.{⊎-elim}
 use mathlib.Core.List.{[]}
 use Prim.Native.Nat.{_-_}
-use lib.ListN.{length}
 use Rattle.places.specs.Loops.{countOf}
 use Rattle.places.proofs.Loops.{Counting, count-start, count-next, count-end}
 use Rattle.places.proofs.Stored.{length-threes}
@@ -17,28 +16,24 @@ use Rattle.clip.proofs.count_out.Tie as tie
 
 abbrev Inv-loop : tie.InvT-loop
 Inv-loop src plane eps n out₀ i₀ out i =
-    (n ≡ length (verticesOf src)) ×
     Counting (beyond plane eps) (verticesOf src) (countOf (beyond plane eps) (verticesOf src)) i out
 
 abbrev μ-loop : tie.MeasureT-loop
 μ-loop src plane eps n out₀ i₀ out i = n - i
 
 loop-holds : tie.Need-loop-holds Inv-loop μ-loop
-loop-holds c = (sym (length-threes (c .before .args .src .now)), count-start refl)
+loop-holds c = count-start refl
 
 loop-again : tie.Need-loop-again Inv-loop μ-loop
 loop-again c =
     let measured : tie.After-distance Inv-loop μ-loop = search in
     let at : tie.At-loop Inv-loop μ-loop = search in
-    let inv = at .loop .inv in (
-      inv .0,
-      count-next [] (inv .1) (search needs)
-          (rw (← measured .before .vertex .ensures, ← measured .distance .ensures)
-          (⊎-elim (λ w. rw (w .0 .taken) (w .1)) (λ w. rw (w .0 .left, add-zero) (w .1)) (c .if1 .came))),
-    )
+    count-next [] (at .loop .inv) (search (needs, length-threes))
+    (rw (← measured .before .vertex .ensures, ← measured .distance .ensures)
+    (⊎-elim (λ w. rw (w .0 .taken) (w .1)) (λ w. rw (w .0 .left, add-zero) (w .1)) (c .if1 .came)))
 
 returns : tie.Need-returns Inv-loop μ-loop
-returns c = count-end (c .before .loop .inv .1) (search needs)
+returns c = count-end (c .before .loop .inv) (search (needs, length-threes))
 
 pub count-out-spec : {M : Type 1} → statement M
 count-out-spec =
@@ -47,6 +42,6 @@ count-out-spec =
     Inv-loop
     μ-loop
     loop-holds
-    (λ c κs. search needs) (λ c κs. search needs) (λ c. search needs) (λ c. search needs) (λ c. search needs)
+    (λ c κs. search (needs, length-threes)) (λ c κs. search needs) (λ c. search needs) (λ c. search needs) (λ c. search needs)
     loop-again
     returns)

@@ -9,11 +9,6 @@ use borrow.Author.Needs.{needs}
 use Rattle.clip_step.proofs.push.Statement.{statement}
 use Rattle.clip_step.proofs.push.Tie as tie
 
-has-place : tie.Need-put-vertex-requires
-has-place c κs =
-    let args = c .before .before .before .args in
-    omega (arith, length-threes (args .s .now))
-
 stored : tie.Need-returns
 stored c =
     let put-vertex = c .before .before .put-vertex in
@@ -21,15 +16,14 @@ stored c =
 
 past-the-end : tie.Need-returns-2
 past-the-end c =
-    let args = c .before .before .args in
-    filled-one refl (sym (set-out _ _ _ (omega (arith, length-threes (args .s .now)))))
+    let start : tie.Start = search in
+    filled-one refl (sym (set-out _ _ _ (omega (arith, length-threes (start .args .s .now)))))
 
 pub push-spec : {M : Type 1} → statement M
 push-spec =
     tie.close
     (tie.spec
-    has-place
-    (λ c. search needs) (λ c. search needs)
+    (λ c κs. search (needs, length-threes)) (λ c. search needs) (λ c. search needs)
     stored
     (λ c. search needs)
     past-the-end)

@@ -1,6 +1,6 @@
 -- `clip_step::trim_by_plane` meets its contract: what the sides from place i on leave makes, with what was laid down, the whole; a is the
 -- point before place i, and da its distance.
-use mathlib.Core.Path.{_≡_, refl, sym, _∙_}
+use mathlib.Core.Path.{_≡_, refl, _∙_}
 use native.Mathlib.Omega.{arith}
 use Prim.Native.Nat.{_-_, zero-le}
 use lib.ListN.{length}
@@ -15,7 +15,7 @@ use Rattle.clip_step.proofs.trim_by_plane.Tie as tie
 
 abbrev Inv-loop : tie.InvT-loop
 Inv-loop src dst₀ plane eps n a₀ da₀ m₀ i₀ dst a da m i =
-    (n ≡ length (verticesOf src)) × (length dst ≡ length dst₀) × (da ≡ distanceOf plane a) ×
+    (length dst ≡ length dst₀) × (da ≡ distanceOf plane a) ×
     Trimming (within plane eps) (crossPlane plane) (verticesOf src) (trimmedBy plane eps (verticesOf src)) (verticesOf dst₀) a i
     m (verticesOf dst)
 
@@ -24,20 +24,19 @@ abbrev μ-loop : tie.MeasureT-loop
 
 some-points : tie.Need-sub-vertex Inv-loop μ-loop
 some-points c =
-    let args = c .before .before .args in
-    omega (arith, length-threes (args .src .now))
+    let start : tie.Start Inv-loop μ-loop = search in
+    omega (arith, length-threes (start .args .src .now))
 
 last-vertex : tie.Need-vertex-requires Inv-loop μ-loop
 last-vertex c κs =
-    let args = c .before .before .args in
-    omega (arith, length-threes (args .src .now))
+    let start : tie.Start Inv-loop μ-loop = search in
+    omega (arith, length-threes (start .args .src .now))
 
 loop-holds : tie.Need-loop-holds Inv-loop μ-loop
 loop-holds c =
     let start : tie.Start Inv-loop μ-loop = search in
     let args = start .args in
     let src = args .src .now in (
-      sym (length-threes src),
       refl,
       c .distance .ensures,
       trimming-start zero-le
@@ -48,7 +47,7 @@ emit-requires : tie.Need-emit-requires Inv-loop μ-loop
 emit-requires c κs =
     let at : tie.At-loop Inv-loop μ-loop = search in
     let start : tie.Start Inv-loop μ-loop = search in
-    omega (arith, length-threes (start .args .src .now), at .loop .inv .3 .few)
+    omega (arith, length-threes (start .args .src .now), at .loop .inv .2 .few)
 
 loop-again : tie.Need-loop-again Inv-loop μ-loop
 loop-again c =
@@ -56,17 +55,14 @@ loop-again c =
     let measured : tie.After-distance2 Inv-loop μ-loop = search in
     let laid : tie.After-emit Inv-loop μ-loop = search in
     let inv = inside .before .loop .inv in (
-      inv .0,
-      laid .emit .kept .0 ∙ inv .1,
+      laid .emit .kept .0 ∙ inv .0,
       measured .distance2 .ensures,
-      trimming-more (inv .3) (omega (arith, inv .0, inside .loop-test .taken)) (measured .before .vertex2 .ensures)
-          (rw (inv .2, measured .distance2 .ensures) at (laid .emit .ensures)),
+      trimming-more (inv .2) (search (needs, length-threes)) (measured .before .vertex2 .ensures)
+          (rw (inv .1, measured .distance2 .ensures) at (laid .emit .ensures)),
     )
 
 returns : tie.Need-returns Inv-loop μ-loop
-returns c =
-    let inv = c .before .loop .inv in
-    trimming-end (inv .3) (omega (arith, inv .0, c .loop-test .left))
+returns c = trimming-end (c .before .loop .inv .2) (search (needs, length-threes))
 
 pub trim-by-plane-spec : {M : Type 1} → statement M
 trim-by-plane-spec =
@@ -78,7 +74,7 @@ trim-by-plane-spec =
     last-vertex
     (λ c κs. search needs)
     loop-holds
-    (λ c κs. search needs) (λ c κs. search needs)
+    (λ c κs. search (needs, length-threes)) (λ c κs. search needs)
     emit-requires
     (λ c. search needs) (λ c. search needs)
     loop-again

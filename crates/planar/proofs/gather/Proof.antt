@@ -1,6 +1,6 @@
 -- `planar::gather` meets its contract: the points before place i stand at the front of the list, and those left to lay down make, with
 -- them, the whole outline.
-use mathlib.Core.Path.{_≡_, refl, sym, _∙_}
+use mathlib.Core.Path.{_≡_, refl, _∙_}
 use mathlib.Core.List.{[]}
 use Prim.Native.Nat.{_-_}
 use native.Mathlib.Omega.{arith}
@@ -14,21 +14,20 @@ use Rattle.planar.proofs.gather.Tie as tie
 
 abbrev Inv-loop : tie.InvT-loop
 Inv-loop src dst₀ n i₀ dst i =
-    (n ≡ length (inPairs src)) × (length dst ≡ length dst₀) ×
+    (length dst ≡ length dst₀) ×
     Rest (inPairs src) (inPairs dst₀) i (drop i (inPairs src)) (inPairs dst)
 
 abbrev μ-loop : tie.MeasureT-loop
 μ-loop src dst₀ n i₀ dst i = n - i
 
 loop-holds : tie.Need-loop-holds Inv-loop μ-loop
-loop-holds c =
-    let start : tie.Start Inv-loop μ-loop = search in
-    (sym (length-pairs (start .args .src .now)), refl, rest-start)
+loop-holds c = (refl, rest-start)
 
 has-place : tie.Need-put-pair-requires Inv-loop μ-loop
 has-place c κs =
     let at : tie.At-loop Inv-loop μ-loop = search in
-    omega (arith, rest-length (at .loop .inv .2))
+    let start : tie.Start Inv-loop μ-loop = search in
+    omega (arith, length-pairs (start .args .src .now), rest-length (at .loop .inv .1))
 
 loop-again : tie.Need-loop-again Inv-loop μ-loop
 loop-again c =
@@ -36,13 +35,12 @@ loop-again c =
     let read : tie.After-pair Inv-loop μ-loop = search in
     let at : tie.At-loop Inv-loop μ-loop = search in
     let inv = at .loop .inv in (
-      inv .0,
-      put .put-pair .kept .0 ∙ inv .1,
-      lay-next [] (inv .2) (search needs) (read .pair .ensures) (put .put-pair .ensures .0),
+      put .put-pair .kept .0 ∙ inv .0,
+      lay-next [] (inv .1) (search (needs, length-pairs)) (read .pair .ensures) (put .put-pair .ensures .0),
     )
 
 returns : tie.Need-returns Inv-loop μ-loop
-returns c = lay-end (c .before .loop .inv .2) (search needs) (search needs)
+returns c = lay-end (c .before .loop .inv .1) (search (needs, length-pairs)) (search (needs, length-pairs))
 
 pub gather-spec : {M : Type 1} → statement M
 gather-spec =
@@ -51,7 +49,7 @@ gather-spec =
     Inv-loop
     μ-loop
     loop-holds
-    (λ c κs. search needs)
+    (λ c κs. search (needs, length-pairs))
     has-place
     (λ c. search needs) (λ c. search needs)
     loop-again

@@ -45,32 +45,28 @@ few-kept c =
 
 point-kept : tie.Need-loop-again Inv-loop μ-loop
 point-kept c =
-    let start : tie.Start Inv-loop μ-loop = search in
     let inside : tie.In-loop Inv-loop μ-loop = search in
     let read : tie.After-vertex2 Inv-loop μ-loop = search in
     let asked : tie.Then1 Inv-loop μ-loop = search in
     let put : tie.After-put-vertex Inv-loop μ-loop = search in
     let inv = inside .before .loop .inv in (
       put .put-vertex .kept .0 ∙ inv .0,
-      spacing-keep (inv .1) (omega (arith, length-threes (start .args .s .now), inside .loop-test .taken)) (read .vertex2 .ensures)
+      spacing-keep (inv .1) (search (needs, length-threes)) (read .vertex2 .ensures)
           (sym (asked .before .is-far .ensures) ∙ asked .if1 .taken) (put .put-vertex .ensures .0),
     )
 
 point-dropped : tie.Need-loop-again-2 Inv-loop μ-loop
 point-dropped c =
-    let start : tie.Start Inv-loop μ-loop = search in
     let inside : tie.In-loop Inv-loop μ-loop = search in
     let read : tie.After-vertex2 Inv-loop μ-loop = search in
     let inv = inside .before .loop .inv in (
       inv .0,
-      spacing-drop (inv .1) (omega (arith, length-threes (start .args .s .now), inside .loop-test .taken)) (read .vertex2 .ensures)
+      spacing-drop (inv .1) (search (needs, length-threes)) (read .vertex2 .ensures)
           (sym (c .before .is-far .ensures) ∙ c .if1 .left),
     )
 
 returns : tie.Need-returns Inv-loop μ-loop
-returns c =
-    let start : tie.Start Inv-loop μ-loop = search in
-    spacing-end (c .before .loop .inv .1) (omega (arith, length-threes (start .args .s .now), c .loop-test .left))
+returns c = spacing-end (c .before .loop .inv .1) (search (needs, length-threes))
 
 pub space-out-spec : {M : Type 1} → statement M
 space-out-spec =

@@ -1,6 +1,6 @@
 -- `clip_step::edge::trim_at_edge` meets its contract: the sides run through the outline with its first point once more; what those from
 -- place i on leave makes, with what was laid down, the whole, and the last is taken after the loop.
-use mathlib.Core.Path.{_≡_, refl, sym, _∙_}
+use mathlib.Core.Path.{_≡_, refl, _∙_}
 use native.Mathlib.Omega.{arith}
 use Prim.Native.Nat.{_-_, _≤_}
 use lib.ListN.{length}
@@ -15,7 +15,7 @@ use Rattle.clip_step.proofs.edge.trim_at_edge.Tie as tie
 
 abbrev Inv-loop : tie.InvT-loop
 Inv-loop src dst₀ a b n first first-in p₀ p-in₀ m₀ i₀ dst p p-in m i =
-    (n ≡ length (inPairs src)) × (length dst ≡ length dst₀) × (p-in ≡ onLeft a b p) × (i ≤ n) ×
+    (length dst ≡ length dst₀) × (p-in ≡ onLeft a b p) × (i ≤ n) ×
     Trimming (onLeft a b) (crossingOf a b) (ringed (inPairs src)) (trimmedAt a b (inPairs src)) (inPairs dst₀) p i m
     (inPairs dst)
 
@@ -27,7 +27,6 @@ loop-holds c =
     let start : tie.Start Inv-loop μ-loop = search in
     let args = start .args in
     let points = inPairs (args .src .now) in (
-      sym (length-pairs (args .src .now)),
       refl,
       c .on-left .ensures,
       omega (arith, length-pairs (args .src .now)),
@@ -39,7 +38,7 @@ emit-requires : tie.Need-emit-requires Inv-loop μ-loop
 emit-requires c κs =
     let at : tie.At-loop Inv-loop μ-loop = search in
     let start : tie.Start Inv-loop μ-loop = search in
-    omega (arith, length-pairs (start .args .src .now), at .loop .inv .4 .few)
+    omega (arith, length-pairs (start .args .src .now), at .loop .inv .3 .few)
 
 loop-again : tie.Need-loop-again Inv-loop μ-loop
 loop-again c =
@@ -48,19 +47,18 @@ loop-again c =
     let judged : tie.After-on-left2 Inv-loop μ-loop = search in
     let laid : tie.After-emit Inv-loop μ-loop = search in
     let inv = inside .before .loop .inv in (
-      inv .0,
-      laid .emit .kept .0 ∙ inv .1,
+      laid .emit .kept .0 ∙ inv .0,
       judged .on-left2 .ensures,
       omega arith,
-      ringed-more (inPairs (start .args .src .now)) (inv .4) (omega (arith, inv .0, inside .loop-test .taken))
-          (judged .before .pair2 .ensures) (rw (inv .2, judged .on-left2 .ensures) at (laid .emit .ensures)),
+      ringed-more (inPairs (start .args .src .now)) (inv .3) (search (needs, length-pairs))
+          (judged .before .pair2 .ensures) (rw (inv .1, judged .on-left2 .ensures) at (laid .emit .ensures)),
     )
 
 last-emit-requires : tie.Need-emit-requires-2 Inv-loop μ-loop
 last-emit-requires c κs =
     let at : tie.At-loop Inv-loop μ-loop = search in
     let start : tie.Start Inv-loop μ-loop = search in
-    omega (arith, length-pairs (start .args .src .now), at .loop .inv .4 .few)
+    omega (arith, length-pairs (start .args .src .now), at .loop .inv .3 .few)
 
 returns : tie.Need-returns Inv-loop μ-loop
 returns c =
@@ -69,8 +67,9 @@ returns c =
     let done : tie.After-loop Inv-loop μ-loop = search in
     let laid : tie.After-emit2 Inv-loop μ-loop = search in
     let inv = done .before .loop .inv in
-    ringed-end (inPairs (start .args .src .now)) (inv .4) (omega (arith, inv .0, inv .3, done .loop-test .left))
-    (judged .before .pair .ensures) (rw (inv .2, judged .on-left .ensures) at (laid .emit2 .ensures))
+    let src = start .args .src .now in
+    ringed-end (inPairs src) (inv .3) (omega (arith, length-pairs src, inv .2, done .loop-test .left))
+    (judged .before .pair .ensures) (rw (inv .1, judged .on-left .ensures) at (laid .emit2 .ensures))
 
 pub trim-at-edge-spec : {M : Type 1} → statement M
 trim-at-edge-spec =
@@ -80,7 +79,7 @@ trim-at-edge-spec =
     μ-loop
     (λ c κs. search needs) (λ c κs. search needs)
     loop-holds
-    (λ c κs. search needs) (λ c κs. search needs)
+    (λ c κs. search (needs, length-pairs)) (λ c κs. search needs)
     emit-requires
     (λ c. search needs) (λ c. search needs)
     loop-again

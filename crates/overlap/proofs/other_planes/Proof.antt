@@ -15,27 +15,25 @@ use Rattle.overlap.proofs.other_planes.Tie as tie
 
 abbrev Inv-loop : tie.InvT-loop
 Inv-loop plane planes tol kept₀ n m₀ i₀ kept m i =
-    (n ≡ length (inFours planes)) × (length kept ≡ length kept₀) ×
+    (length kept ≡ length kept₀) ×
     Sifting plane tol (inFours planes) (inFours kept₀) i m (inFours kept)
 
 abbrev μ-loop : tie.MeasureT-loop
 μ-loop plane planes tol kept₀ n m₀ i₀ kept m i = n - i
 
 loop-holds : tie.Need-loop-holds Inv-loop μ-loop
-loop-holds c =
-    let start : tie.Start Inv-loop μ-loop = search in
-    (sym (length-fours (start .args .planes .now)), refl, sift-start)
+loop-holds c = (refl, sift-start)
 
 has-place : tie.Need-put-plane-requires Inv-loop μ-loop
 has-place c κs =
     let at : tie.At-loop Inv-loop μ-loop = search in
     let start : tie.Start Inv-loop μ-loop = search in
-    omega (arith, length-fours (at .loop .kept), length-fours (start .args .planes .now), at .loop .inv .2 .few)
+    omega (arith, length-fours (at .loop .kept), length-fours (start .args .planes .now), at .loop .inv .1 .few)
 
 few-kept : tie.Need-add-m Inv-loop μ-loop
 few-kept c =
     let at : tie.At-loop Inv-loop μ-loop = search in
-    omega (arith, at .loop .inv .2 .few)
+    omega (arith, at .loop .inv .1 .few)
 
 plane-kept : tie.Need-loop-again Inv-loop μ-loop
 plane-kept c =
@@ -44,9 +42,8 @@ plane-kept c =
     let asked : tie.Then1 Inv-loop μ-loop = search in
     let put : tie.After-put-plane Inv-loop μ-loop = search in
     let inv = at .loop .inv in (
-      inv .0,
-      put .put-plane .kept .0 ∙ inv .1,
-      sift-keep noPlane (inv .2) (search needs) (read .plane-at .ensures)
+      put .put-plane .kept .0 ∙ inv .0,
+      sift-keep noPlane (inv .1) (search (needs, length-fours)) (read .plane-at .ensures)
           (sym (asked .before .plane-same-side .ensures) ∙ not-true _ (asked .if1 .taken)) (put .put-plane .ensures),
     )
 
@@ -56,20 +53,19 @@ plane-dropped c =
     let read : tie.After-plane-at Inv-loop μ-loop = search in
     let inv = at .loop .inv in (
       inv .0,
-      inv .1,
-      sift-drop noPlane (inv .2) (search needs) (read .plane-at .ensures)
+      sift-drop noPlane (inv .1) (search (needs, length-fours)) (read .plane-at .ensures)
           (sym (c .before .plane-same-side .ensures) ∙ not-false _ (c .if1 .left)),
     )
 
 same-length : tie.Need-same-length Inv-loop μ-loop
-same-length c = c .before .loop .inv .1
+same-length c = c .before .loop .inv .0
 
 returns : tie.Need-returns Inv-loop μ-loop
 returns c =
     let start : tie.Start Inv-loop μ-loop = search in
     let planes = length-fours (start .args .planes .now) in
-    let sifted = c .before .loop .inv .2 in
-    let done = sift-end sifted (search needs) (omega (arith, planes, length-fours (start .args .kept .now))) in
+    let sifted = c .before .loop .inv .1 in
+    let done = sift-end sifted (search (needs, length-fours)) (omega (arith, planes, length-fours (start .args .kept .now))) in
     (done .0, (done .1, omega (arith, planes, sifted .few, sifted .within)))
 
 pub other-planes-spec : {M : Type 1} → statement M
@@ -79,7 +75,7 @@ other-planes-spec =
     Inv-loop
     μ-loop
     loop-holds
-    (λ c κs. search needs) (λ c. search needs) (λ c κs. search needs)
+    (λ c κs. search (needs, length-fours)) (λ c. search needs) (λ c κs. search needs)
     has-place
     few-kept
     (λ c. search needs)

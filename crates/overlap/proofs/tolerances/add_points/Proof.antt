@@ -1,8 +1,7 @@
 -- `overlap::tolerances::add_points` meets its contract: from place i on, the sum so far comes to the whole fold over the points.
-use mathlib.Core.Path.{_≡_, refl, sym}
+use mathlib.Core.Path.{refl}
 use mathlib.Core.List.{[]}
 use Prim.Native.Nat.{_-_}
-use lib.ListN.{length}
 use Rattle.places.specs.Loops.{foldList}
 use Rattle.places.proofs.Loops.{Taking, take-start, take-next, take-end}
 use Rattle.places.proofs.Stored.{length-threes}
@@ -13,21 +12,21 @@ use Rattle.overlap.proofs.tolerances.add_points.Tie as tie
 
 abbrev Inv-loop : tie.InvT-loop
 Inv-loop coords n t₀ i₀ t i =
-    (n ≡ length (verticesOf coords)) × Taking (plusOf 3) (verticesOf coords) (foldList (plusOf 3) (verticesOf coords) t₀) i t
+    Taking (plusOf 3) (verticesOf coords) (foldList (plusOf 3) (verticesOf coords) t₀) i t
 
 abbrev μ-loop : tie.MeasureT-loop
 μ-loop coords n t₀ i₀ t i = n - i
 
 loop-holds : tie.Need-loop-holds Inv-loop μ-loop
-loop-holds c = (sym (length-threes (c .before .args .coords .now)), take-start refl)
+loop-holds c = take-start refl
 
 loop-again : tie.Need-loop-again Inv-loop μ-loop
 loop-again c =
-    let loop = c .before .before .before .loop in
-    (loop .inv .0, take-next [] (loop .inv .1) (search needs) (cc))
+    let at : tie.At-loop Inv-loop μ-loop = search in
+    take-next [] (at .loop .inv) (search (needs, length-threes)) (cc)
 
 returns : tie.Need-returns Inv-loop μ-loop
-returns c = take-end (c .before .loop .inv .1) (search needs)
+returns c = take-end (c .before .loop .inv) (search (needs, length-threes))
 
 pub add-points-spec : {M : Type 1} → statement M
 add-points-spec =
@@ -36,6 +35,6 @@ add-points-spec =
     Inv-loop
     μ-loop
     loop-holds
-    (λ c κs. search needs) (λ c κs. search needs) (λ c. search needs) (λ c. search needs)
+    (λ c κs. search (needs, length-threes)) (λ c κs. search needs) (λ c. search needs) (λ c. search needs)
     loop-again
     returns)

@@ -43,7 +43,7 @@ abbrev pub secondSkip : Plane → Float → Plane → Bool
 secondSkip plane tol p = coplanarOpposite p plane tol || sameSide p plane tol
 
 -- ---- what is left of the faces
--- the planes that are not the plane itself, with the inside on the same side
+-- the planes save those that are this plane, from the same side
 unfoldable pub otherPlanes : Plane → Float → List Plane → List Plane
 otherPlanes plane tol [] = []
 otherPlanes plane tol (p ∷ ps) =

@@ -21,11 +21,6 @@ both-planes-requires c κs =
     let start : tie.Start = search in
     (start .pre .0, (start .pre .1 .0, front-length _ 128 (omega arith)))
 
-measures-requires : tie.Need-measures-requires
-measures-requires c κs =
-    let start : tie.Start = search in
-    (few-coordinates (start .pre .0 .sound), few-coordinates (start .pre .1 .0 .sound))
-
 first-stocked : tie.Need-add-faces-requires
 first-stocked c κs =
     let at : tie.After-measures = search in
@@ -70,8 +65,7 @@ overlap-16-spec =
     (tie.spec
     (λ c. search needs) (λ c. search needs) (λ c. search needs) (λ c. search needs) (λ c. search needs) (λ c. search needs)
     both-planes-requires
-    measures-requires
-    (λ c. search needs)
+    (λ c κs. search (needs, few-coordinates)) (λ c. search needs)
     first-stocked
     (λ c. search needs) (λ c. search needs) (λ c. search needs)
     second-stocked

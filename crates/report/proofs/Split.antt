@@ -2,52 +2,34 @@
 -- with the next piece behind it, are the whole records of all of them, in their order.
 use mathlib.Core.Path.{_≡_, refl, sym, ap, _∙_}
 use mathlib.Core.List.{List, [], _∷_, _++_, append-assoc, append-nil}
-use Prim.Native.Nat.{ℕ, _+_, _-_, _*_, _/_, _≤_}
+use Prim.Native.Nat.{ℕ, _+_, _-_, _*_, _/_, _≤_, _<_}
 use native.Mathlib.Omega.{arith}
-use lib.ListN.{length, take, drop, length-append, length-drop}
-use lib.Seq.{drop-append-le, drop-drop, take-at, drop-at, take-add, length-take-le}
+use lib.ListN.{length, take, drop, length-drop}
+use lib.Seq.{take-at, drop-at, take-add, length-take-le}
 use lib.Ieee.{Float}
 use Rattle.places.specs.Stored.{joined}
 use Rattle.lines.specs.Text.{Put}
+use Rattle.records.specs.declared.bytes.Rec.{Rec}
 use Rattle.records.specs.declared.tally.Tally.{Tally}
 use Rattle.records.specs.Tally.{newOf}
-use Rattle.report.specs.Report.{Held, heldOf, freshOf, after, linesOf, cutOf, recordsOf, tailOf, reportFrom, reportOf, movedOf}
-use Rattle.report.specs.Split.{wholeOf, restOf, printedFrom, AnySplit, OneReport, Reached, Starts, OneMore, AtTheEnd, Takes}
-use Rattle.report.specs.Split.{Feeds, Finishes, WentOn, Running}
-use Rattle.report.proofs.Joining.{cut-front, cut-add, after-append, lines-append}
+use Rattle.report.specs.Report.{Held, heldOf, freshOf, after, linesOf, recordsFrom, restFrom, recordsOf, restOf, tailOf}
+use Rattle.report.specs.Report.{reportFrom, reportOf, movedOf}
+use Rattle.report.specs.Split.{printedFrom, AnySplit, OneReport, Reached, Starts, OneMore, AtTheEnd, Takes, Feeds, Finishes}
+use Rattle.report.specs.Split.{WentOn, Running}
+use Rattle.report.proofs.Joining.{records-append, rest-append, rest-short, waiting, waiting-rest, rest-drop, after-append}
+use Rattle.report.proofs.Joining.{lines-append}
 use Rattle.report.proofs.Taken.{front}
 
 -- ---- all bytes, from the bytes given and one more piece
-counts : (N g R : ℕ) → N ≡ g / 32 * 32 + R → N / 32 ≡ g / 32 + R / 32
-counts N g R e = omega arith
-
-whole : (n : ℕ) → n / 32 * 32 ≤ n
-whole n = omega arith
-
-times : (a b : ℕ) → (a + b) * 32 ≡ a * 32 + b * 32
-times a b = omega arith
-
-sizes : (g s : List ℕ) → length (g ++ s) ≡ wholeOf g * 32 + length (restOf g ++ s)
-sizes g s = simp (length-append, length-drop) (omega arith)
-
-more-whole : (g s : List ℕ) → wholeOf (g ++ s) ≡ wholeOf g + wholeOf (restOf g ++ s)
-more-whole g s = counts (length (g ++ s)) (length g) (length (restOf g ++ s)) (sizes g s)
-
-behind : (g s : List ℕ) → drop (wholeOf g * 32) (g ++ s) ≡ restOf g ++ s
-behind g s = drop-append-le (wholeOf g * 32) g s (whole (length g))
+few-wait : (g : List ℕ) → length (restOf g) < 32
+few-wait g = rest-short [] g (omega arith)
 
 more-rest : (g s : List ℕ) → restOf (g ++ s) ≡ restOf (restOf g ++ s)
-more-rest g s = at (wholeOf (g ++ s)) (wholeOf (restOf g ++ s)) (more-whole g s)
-  where
-    at : (n b : ℕ) → n ≡ wholeOf g + b → drop (n * 32) (g ++ s) ≡ drop (b * 32) (restOf g ++ s)
-    at n b e = rw (e, times (wholeOf g) b, ← drop-drop (b * 32) (wholeOf g * 32) (g ++ s), behind g s)
+more-rest g s = rest-append [] g s ∙ sym (waiting-rest (restOf g) s (few-wait g))
 
 -- the whole records of all bytes are those of the bytes given, and then those of what waits with the piece behind it
 more-records : (g s : List ℕ) → recordsOf (g ++ s) ≡ recordsOf g ++ recordsOf (restOf g ++ s)
-more-records g s =
-    ap (λ (n : ℕ). cutOf n (g ++ s)) (more-whole g s)
-    ∙ cut-add (wholeOf g) (wholeOf (restOf g ++ s)) (g ++ s)
-    ∙ rw (cut-front (wholeOf g) g s (whole (length g)), behind g s)
+more-records g s = records-append [] g s ∙ ap (λ (rs : List Rec). recordsOf g ++ rs) (sym (waiting (restOf g) s (few-wait g)))
 
 more-held : (h : Held) (g s : List ℕ) → after h (recordsOf (g ++ s)) ≡ after (after h (recordsOf g)) (recordsOf (restOf g ++ s))
 more-held h g s = ap (after h) (more-records g s) ∙ after-append h (recordsOf g) (recordsOf (restOf g ++ s))
@@ -58,7 +40,7 @@ more-lines h g s = ap (linesOf h) (more-records g s) ∙ lines-append h (records
 
 -- ---- a run on its way: its start, one more piece, its end
 pub starts : Starts
-unfolding cutOf after linesOf
+unfolding recordsFrom restFrom after linesOf
 starts = record { held = refl; waits = refl; lines = refl }
 
 pub one-more : OneMore
@@ -74,7 +56,7 @@ one-more h w s =
 
 pub at-the-end : AtTheEnd
 unfolding reportFrom
-at-the-end given h w printed r = rw (r .lines, r .held, r .waits, length-drop (wholeOf given * 32) given)
+at-the-end given h w printed r = rw (r .lines, r .held, r .waits)
 
 -- ---- the theorem
 from-there : {given : List ℕ} {h : Held} {w printed : List ℕ} (ss : List (List ℕ)) → Reached given h w printed
@@ -110,7 +92,9 @@ finished t left e p l = (rw e p, (l, finishes t left (put-front p l ∙ sym e)))
 -- the bytes that are moved to the front of the block are those that wait
 pub moved-rest : (b : List ℕ) {b′ : List ℕ} (total : ℕ) → total ≤ length b → b′ ≡ movedOf b (total / 32 * 32) (total - total / 32 * 32)
     → take (total - total / 32 * 32) b′ ≡ restOf (take total b)
-moved-rest b total l m = rw (m, length-take-le total b l) (at (total / 32 * 32) (total - total / 32 * 32) (omega arith) (omega arith))
+moved-rest b total l m =
+    rw (m, rest-drop (take total b), length-take-le total b l)
+    (at (total / 32 * 32) (total - total / 32 * 32) (omega arith) (omega arith))
   where
     at : (f n : ℕ) → f + n ≡ total → f + n ≤ length b → take n (take n (drop f b) ++ drop n b) ≡ drop f (take total b)
     at f n e k =

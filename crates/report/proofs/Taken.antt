@@ -21,9 +21,9 @@ use Rattle.records.proofs.Growth.{Follows, tally-follows}
 use Rattle.lines.specs.Text.{Put}
 use Rattle.lines.specs.Lines.{refusedLine}
 use Rattle.lines.proofs.Writing.{then}
-use Rattle.report.specs.Report.{Held, heldOf, grownOf, surveyLine, lineOf, saysOf, recordTaken, after, linesOf, cutOf, Lent}
+use Rattle.report.specs.Report.{Held, heldOf, grownOf, surveyLine, lineOf, saysOf, recordTaken, after, linesOf, recordsFrom, Lent}
 use Rattle.report.specs.Report.{lentOf, storedOf, storedAfter}
-use Rattle.report.proofs.Joining.{after-more, lines-more, stored-more}
+use Rattle.report.proofs.Joining.{firstRecords, after-more, lines-more, stored-more}
 
 -- a run of stores behind the first n makes the front longer by the run
 pub front : {A : Type 0} (xs ys : List A) (n : ℕ) → n + length ys ≤ length xs → take (n + length ys) (sets xs n ys) ≡ take n xs ++ ys
@@ -104,26 +104,26 @@ unfolding lineOf
 line-found h x y n e f p = rw (eq-eqb (h .tally .refusal) 0 n, ← e, f) p
 
 -- ---- a block: what holds after k records
-pub after-step : {h h′ : Held} {r : Rec} (h₀ : Held) (s : List ℕ) (k : ℕ) → h ≡ after h₀ (cutOf k s) → r ≡ recordOf s (k * 32)
-    → h′ ≡ recordTaken h r → h′ ≡ after h₀ (cutOf (k + 1) s)
-after-step h₀ s k e f g = g ∙ rw (e, f) (sym (after-more h₀ s k))
+module _ (h₀ : Held) (s : List ℕ) (k : ℕ) (l : (k + 1) * 32 ≤ length s) {h : Held} {r : Rec}
+    (e : h ≡ after h₀ (firstRecords k s)) (f : r ≡ recordOf s (k * 32)) where
+  pub after-step : {h′ : Held} → h′ ≡ recordTaken h r → h′ ≡ after h₀ (firstRecords (k + 1) s)
+  after-step g = g ∙ rw (e, f) (sym (after-more s k l h₀))
 
-pub stored-step : {h : Held} {l l′ : Lent} {r : Rec} (h₀ : Held) (l₀ : Lent) (s : List ℕ) (k : ℕ) → h ≡ after h₀ (cutOf k s)
-    → l ≡ storedAfter h₀ l₀ (cutOf k s) → r ≡ recordOf s (k * 32) → l′ ≡ storedOf (h .tally) l r → l′ ≡ storedAfter h₀ l₀ (cutOf (k + 1) s)
-stored-step h₀ l₀ s k i e f g = g ∙ rw (stored-more h₀ l₀ s k, ← i, ← e, ← f)
+  pub stored-step : {x x′ : Lent} (x₀ : Lent) → x ≡ storedAfter h₀ x₀ (firstRecords k s) → x′ ≡ storedOf (h .tally) x r
+      → x′ ≡ storedAfter h₀ x₀ (firstRecords (k + 1) s)
+  stored-step x₀ i g = g ∙ rw (stored-more s k l h₀ x₀, ← e, ← i, ← f)
 
-pub lines-step : {h : Held} {r : Rec} {o m o′ : List ℕ} {p q : ℕ} (h₀ : Held) (s : List ℕ) (k : ℕ) → h ≡ after h₀ (cutOf k s)
-    → r ≡ recordOf s (k * 32) → Put o 0 (linesOf h₀ (cutOf k s)) m p → Put m p (saysOf h r) o′ q
-    → Put o 0 (linesOf h₀ (cutOf (k + 1) s)) o′ q
-lines-step h₀ s k e f p q = rw (lines-more h₀ s k, ← e, ← f) (then p q)
+  pub lines-step : {o m o′ : List ℕ} {p q : ℕ} → Put o 0 (linesOf h₀ (firstRecords k s)) m p → Put m p (saysOf h r) o′ q
+      → Put o 0 (linesOf h₀ (firstRecords (k + 1) s)) o′ q
+  lines-step p q = rw (lines-more s k l h₀, ← e, ← f) (then p q)
 
 -- from the tally t₀, the lists a₀ to d₀ and the output o₀ the first k of n records have come to t, a to d and o, of which `made` is printed
 pub record Goes (s : List ℕ) (a₀ : List Float) (b₀ c₀ : List ℕ) (d₀ : List Float) (o₀ : List ℕ) (n : ℕ) (t₀ : Tally)
     (a : List Float) (b c : List ℕ) (d : List Float) (o : List ℕ) (t : Tally) (made k : ℕ) : Type 0 where
   pub bound : k ≤ n
-  pub held : heldOf t a b c d ≡ after (heldOf t₀ a₀ b₀ c₀ d₀) (cutOf k s)
-  pub lent : lentOf a b c d ≡ storedAfter (heldOf t₀ a₀ b₀ c₀ d₀) (lentOf a₀ b₀ c₀ d₀) (cutOf k s)
-  pub put : Put o₀ 0 (linesOf (heldOf t₀ a₀ b₀ c₀ d₀) (cutOf k s)) o made
+  pub held : heldOf t a b c d ≡ after (heldOf t₀ a₀ b₀ c₀ d₀) (firstRecords k s)
+  pub lent : lentOf a b c d ≡ storedAfter (heldOf t₀ a₀ b₀ c₀ d₀) (lentOf a₀ b₀ c₀ d₀) (firstRecords k s)
+  pub put : Put o₀ 0 (linesOf (heldOf t₀ a₀ b₀ c₀ d₀) (firstRecords k s)) o made
   pub for-a : length a ≡ length a₀
   pub for-b : length b ≡ length b₀
   pub for-c : length c ≡ length c₀
@@ -135,7 +135,7 @@ pub record Goes (s : List ℕ) (a₀ : List Float) (b₀ c₀ : List ℕ) (d₀ 
 
 pub goes-start : (s : List ℕ) (a : List Float) (b c : List ℕ) (d : List Float) (o : List ℕ) (n : ℕ) (t : Tally) → Fits t
     → Goes s a b c d o n t a b c d o t 0 0
-unfolding cutOf after linesOf storedAfter
+unfolding recordsFrom after linesOf storedAfter
 goes-start s a b c d o n t h =
     record {
       bound = omega arith;

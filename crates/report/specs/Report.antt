@@ -1,5 +1,5 @@
 -- The report: the bytes are cut into records, each record makes something of the cell so far, and one that ends a cell prints its line.
-use Prim.Native.Nat.{ℕ, zero, suc, _+_, _-_, _*_, _/_}
+use Prim.Native.Nat.{ℕ, _+_, _*_}
 use mathlib.Core.List.{List, [], _∷_, _++_}
 use mathlib.Core.Bool.{Bool, cond}
 use lib.ListN.{length, take, drop}
@@ -69,14 +69,27 @@ linesOf h [] = []
 linesOf h (r ∷ rs) = saysOf h r ++ linesOf (recordTaken h r) rs
 
 -- ---- the bytes
--- the first n records of the bytes s, of 32 bytes each
-unfoldable pub cutOf : ℕ → List ℕ → List Rec
-cutOf zero s = []
-cutOf (suc n) s = recordOf s 0 ∷ cutOf n (drop 32 s)
+-- the whole records of the bytes s, where the bytes w wait before them: with its 32nd byte a record is whole
+unfoldable pub recordsFrom : List ℕ → List ℕ → List Rec
+recordsFrom w [] = []
+recordsFrom w (b ∷ s) =
+    let v = w ++ (b ∷ []) in
+    cond (eqb (length v) 32) (recordOf v 0 ∷ recordsFrom [] s) (recordsFrom v s)
 
--- all whole records of the bytes s
+-- and the bytes behind them, which wait for a record to be whole
+unfoldable pub restFrom : List ℕ → List ℕ → List ℕ
+restFrom w [] = w
+restFrom w (b ∷ s) =
+    let v = w ++ (b ∷ []) in
+    cond (eqb (length v) 32) (restFrom [] s) (restFrom v s)
+
+-- the whole records of the bytes s
 abbrev pub recordsOf : List ℕ → List Rec
-recordsOf s = cutOf (length s / 32) s
+recordsOf s = recordsFrom [] s
+
+-- the bytes behind the whole records, fewer than 32
+abbrev pub restOf : List ℕ → List ℕ
+restOf s = restFrom [] s
 
 -- the end of the input: bytes after the last cell end are refused, be they whole records or not
 abbrev pub tailOf : Bool → ℕ → List ℕ
@@ -84,7 +97,7 @@ tailOf begun left = cond begun tailLine (cond (eqb left 0) [] tailLine)
 
 -- the lines for the bytes s, where the cell so far is h
 unfoldable pub reportFrom : Held → List ℕ → List ℕ
-reportFrom h s = linesOf h (recordsOf s) ++ tailOf (after h (recordsOf s) .tally .begun) (length s - length s / 32 * 32)
+reportFrom h s = linesOf h (recordsOf s) ++ tailOf (after h (recordsOf s) .tally .begun) (length (restOf s))
 
 -- the lines for these bytes
 abbrev pub reportOf : List ℕ → List ℕ

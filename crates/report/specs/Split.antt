@@ -1,19 +1,11 @@
 -- Any split of the input: a run is given the bytes in pieces, as many and as long as they may be, and prints the report of the whole.
-use Prim.Native.Nat.{ℕ, _*_, _/_}
+use Prim.Native.Nat.{ℕ}
 use mathlib.Core.Path.{_≡_}
 use mathlib.Core.List.{List, [], _∷_, _++_}
-use lib.ListN.{length, drop}
+use lib.ListN.{length}
 use Rattle.places.specs.Stored.{joined}
 use Rattle.records.specs.declared.tally.Tally.{Tally}
-use Rattle.report.specs.Report.{Held, freshOf, after, linesOf, recordsOf, tailOf, reportOf}
-
--- how many whole records the bytes b have
-abbrev pub wholeOf : List ℕ → ℕ
-wholeOf b = length b / 32
-
--- the bytes behind the whole records, fewer than 32: they wait for the next piece
-abbrev pub restOf : List ℕ → List ℕ
-restOf b = drop (wholeOf b * 32) b
+use Rattle.report.specs.Report.{Held, freshOf, after, linesOf, recordsOf, restOf, tailOf, reportOf}
 
 -- what a run prints when the cell so far is h, the bytes w wait, and these pieces are still to come: each piece is put behind the
 -- bytes that wait, the lines of the whole records are printed, and the rest waits; after the last piece comes the tail

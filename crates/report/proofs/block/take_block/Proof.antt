@@ -1,10 +1,11 @@
 -- `report::block::take_block` meets its contract: after k turns the tally, the lists and the lines are those of the first k records,
 -- and after the last turn those of all of them.
-use mathlib.Core.Path.{_≡_, _∙_}
-use Prim.Native.Nat.{_/_, _-_}
+use mathlib.Core.Path.{_≡_, sym, _∙_}
+use Prim.Native.Nat.{_+_, _-_, _*_, _/_, _≤_}
 use native.Mathlib.Omega.{arith}
 use lib.ListN.{length}
-use Rattle.report.specs.Report.{heldOf, lentOf}
+use Rattle.report.specs.Report.{heldOf, lentOf, recordsOf}
+use Rattle.report.proofs.Joining.{firstRecords, all-records}
 use Rattle.report.proofs.Taken.{still-sized, Goes, goes-start, after-step, stored-step, lines-step}
 use borrow.Author.Needs.{needs}
 use Rattle.report.proofs.block.take_block.Statement.{statement}
@@ -60,11 +61,12 @@ loop-again c =
     let done = taken .ensures in
     let bounds = done .1 .1 .1 in
     let kept = taken .kept .1 .1 in
+    let there : (loop .k + 1) * 32 ≤ length (args .s .now) = omega (arith, turn .loop-test .taken) in
     record {
       bound = omega (arith, turn .loop-test .taken);
-      held = after-step first (args .s .now) (loop .k) (i .held) r (done .0);
-      put = lines-step first (args .s .now) (loop .k) (i .held) r (i .put) (done .1 .1 .0);
-      lent = stored-step first lists (args .s .now) (loop .k) (i .held) (i .lent) r (done .1 .0);
+      held = after-step first (args .s .now) (loop .k) there (i .held) r (done .0);
+      put = lines-step first (args .s .now) (loop .k) there (i .held) r (i .put) (done .1 .1 .0);
+      lent = stored-step first (args .s .now) (loop .k) there (i .held) r lists (i .lent) (done .1 .0);
       for-a = kept .0 ∙ i .for-a;
       for-b = kept .1 .0 ∙ i .for-b;
       for-c = kept .1 .1 .0 ∙ i .for-c;
@@ -79,10 +81,12 @@ returns : tie.Need-returns Inv-loop μ-loop
 returns c =
     let loop = c .before .loop in
     let start : tie.Start Inv-loop μ-loop = search in
+    let s = start .args .s .now in
     let i = loop .inv in
-    let e : loop .k ≡ length (start .args .s .now) / 32 = omega (arith, c .loop-test .left, i .bound) in (
-      rw e at (i .held),
-      (rw e at (i .lent), (rw e at (i .put), (i .fits, omega (arith, i .number), omega (arith, i .room, start .pre .1 .1 .1)))),
+    let e : loop .k ≡ length s / 32 = omega (arith, c .loop-test .left, i .bound) in
+    let all : firstRecords (loop .k) s ≡ recordsOf s = rw e (sym (all-records s)) in (
+      rw all at (i .held),
+      (rw all at (i .lent), (rw all at (i .put), (i .fits, omega (arith, i .number), omega (arith, i .room, start .pre .1 .1 .1)))),
     )
 
 pub take-block-spec : {M : Type 1} → statement M

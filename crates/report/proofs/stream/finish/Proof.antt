@@ -9,9 +9,9 @@ use borrow.Author.Needs.{needs}
 use Rattle.report.proofs.stream.finish.Statement.{statement}
 use Rattle.report.proofs.stream.finish.Tie as tie
 
-returns : tie.Need-returns
+cell-begun : tie.Need-returns
 unfolding tailLine
-returns c =
+cell-begun c =
     let start : tie.Start = search in
     let args = start .args in
     let at : tie.Then1 = search in
@@ -19,17 +19,17 @@ returns c =
     let put = tail .ensures in
     finished (args .t) (args .have) (rw (at .if1 .taken)) put (omega (arith, put .ends))
 
-returns-2 : tie.Need-returns-2
-returns-2 c =
+nothing-left : tie.Need-returns-2
+nothing-left c =
     let start : tie.Start = search in
     let args = start .args in
     let at : tie.Else1 = search in
     let none : args .have ≡ 0 = omega arith in
     finished {xs = []} (args .t) (args .have) (rw (at .if1 .left, eq-eqb _ _ none)) (record { holds = refl; ends = refl }) (omega arith)
 
-returns-3 : tie.Need-returns-3
+bytes-left : tie.Need-returns-3
 unfolding tailLine
-returns-3 c =
+bytes-left c =
     let start : tie.Start = search in
     let args = start .args in
     let at : tie.Else1 = search in
@@ -43,7 +43,7 @@ finish-spec =
     tie.close
     (tie.spec
     (λ c κs. search needs) (λ c. search needs)
-    returns
-    returns-2
+    cell-begun
+    nothing-left
     (λ c κs. search needs) (λ c. search needs)
-    returns-3)
+    bytes-left)

@@ -106,7 +106,8 @@ pub record Pair (fs : List (List ℕ)) (i j x y : ℕ) : Type 0 where
   pub second : faceOf y < length fs
   pub has-is : (g : ℕ) → has i j (getD fs g []) ≡ oneIf (eqb (faceOf x) g) + oneIf (eqb (faceOf y) g)
   pub up-is : (g : ℕ) (back : Bool)
-      → count i j (sides (faceBy back (getD fs g []))) ≡ oneIf (eqb (faceOf x) g && runsUp back x) + oneIf (eqb (faceOf y) g && runsUp back y)
+      → count i j (sides (faceBy back (getD fs g [])))
+      ≡ oneIf (eqb (faceOf x) g && runsUp back x) + oneIf (eqb (faceOf y) g && runsUp back y)
   pub ups : (c : ℕ → Bool) → runs i j (reversedBy c fs) ≡ oneIf (runsUp (c (faceOf x)) x) + oneIf (runsUp (c (faceOf y)) y)
   pub downs : (c : ℕ → Bool) → runs j i (reversedBy c fs) ≡ oneIf (not (runsUp (c (faceOf x)) x)) + oneIf (not (runsUp (c (faceOf y)) y))
 

@@ -7,6 +7,7 @@ ghost use mathlib.Core.List.{[], _∷_};
 ghost use Prim.Native.Nat.{ℕ, _+_, _*_, _<_, _≤_};
 ghost use lib.Dec.{T, eqb};
 ghost use lib.ListN.{length};
+ghost use Rattle.places.specs.Lent.{old, new};
 ghost use Rattle.places.specs.Limits.{mostVertices, mostFaces};
 ghost use Rattle.places.specs.Loops.{anyOf};
 ghost use Rattle.places.specs.Lists.{Each};
@@ -51,8 +52,8 @@ pub fn is_down(m: u16) -> bool
 fn put(table: &mut [u16], number: &[u16], k: usize, low: usize, high: usize, m: u16) -> bool
     requires { ⌜ Ready (now number) k (now table) ⌝ }
     requires { ⌜ Known (now number) k low × Known (now number) k high × (low < high) × (0 < m) ⌝ }
-    ensures { λ r. ⌜ Left (Known (now (number .entry)) k) (entryOf (now (number .entry)) k) (now (table .entry))
-        (λ i j. cond (eqb low i && eqb high j) (m ∷ []) []) (now (table .exit)) r ⌝ }
+    ensures { λ r. ⌜ Left (Known (old number) k) (entryOf (old number) k) (old table)
+        (λ i j. cond (eqb low i && eqb high j) (m ∷ []) []) (new table) r ⌝ }
 {
     let first = side_table::entry(number, k, low, high);
     if table[first] == 0 {
@@ -71,8 +72,8 @@ fn put(table: &mut [u16], number: &[u16], k: usize, low: usize, high: usize, m: 
 fn put_side(table: &mut [u16], number: &[u16], k: usize, a: usize, b: usize, f: usize) -> bool
     requires { ⌜ Ready (now number) k (now table) ⌝ }
     requires { ⌜ Known (now number) k a × Known (now number) k b × (f < mostFaces) ⌝ }
-    ensures { λ r. ⌜ Left (Known (now (number .entry)) k) (entryOf (now (number .entry)) k) (now (table .entry))
-        (λ i j. markAt i j f (a, b)) (now (table .exit)) r ⌝ }
+    ensures { λ r. ⌜ Left (Known (old number) k) (entryOf (old number) k) (old table)
+        (λ i j. markAt i j f (a, b)) (new table) r ⌝ }
 {
     if a == b {
         return true;
@@ -87,8 +88,8 @@ fn put_side(table: &mut [u16], number: &[u16], k: usize, a: usize, b: usize, f: 
 fn put_face(table: &mut [u16], number: &[u16], k: usize, face: &[u32], f: usize) -> bool
     requires { ⌜ Ready (now number) k (now table) ⌝ }
     requires { ⌜ Each 0 (Known (now number) k) (now face) × (f < mostFaces) ⌝ }
-    ensures { λ r. ⌜ Left (Known (now (number .entry)) k) (entryOf (now (number .entry)) k) (now (table .entry))
-        (λ i j. marksIn i j f (sides (now (face .entry)))) (now (table .exit)) r ⌝ }
+    ensures { λ r. ⌜ Left (Known (old number) k) (entryOf (old number) k) (old table)
+        (λ i j. marksIn i j f (sides (old face))) (new table) r ⌝ }
 {
     let n = face.len();
     let mut i = 0;
@@ -107,8 +108,8 @@ fn put_face(table: &mut [u16], number: &[u16], k: usize, face: &[u32], f: usize)
 fn put_faces(table: &mut [u16], number: &[u16], k: usize, corners: &[u32], ends: &[u32]) -> bool
     requires { ⌜ Ready (now number) k (now table) ⌝ }
     requires { ⌜ Numbered (now number) k (now corners) (now ends) × (length (now ends) ≤ mostFaces) ⌝ }
-    ensures { λ r. ⌜ Left (Known (now (number .entry)) k) (entryOf (now (number .entry)) k) (now (table .entry))
-        (λ i j. marksFrom i j 0 (facesOf (now (corners .entry)) (now (ends .entry)))) (now (table .exit)) r ⌝ }
+    ensures { λ r. ⌜ Left (Known (old number) k) (entryOf (old number) k) (old table)
+        (λ i j. marksFrom i j 0 (facesOf (old corners) (old ends))) (new table) r ⌝ }
 {
     let n = ends.len();
     let mut start = 0;
@@ -129,7 +130,7 @@ fn put_faces(table: &mut [u16], number: &[u16], k: usize, corners: &[u32], ends:
 pub fn first_mark(table: &[u16], number: &[u16], k: usize, a: usize, b: usize) -> u16
     requires { ⌜ Known (now number) k a × Known (now number) k b × (k ≤ mostVertices) ⌝ }
     requires { ⌜ k * k ≤ length (now table) ⌝ }
-    ensures { λ r. ⌜ r ≡ firstAt (entryOf (now (number .entry)) k) (now (table .entry)) a b ⌝ }
+    ensures { λ r. ⌜ r ≡ firstAt (entryOf (old number) k) (old table) a b ⌝ }
 {
     let up = side_table::entry(number, k, a, b);
     let down = side_table::entry(number, k, b, a);
@@ -139,7 +140,7 @@ pub fn first_mark(table: &[u16], number: &[u16], k: usize, a: usize, b: usize) -
 pub fn second_mark(table: &[u16], number: &[u16], k: usize, a: usize, b: usize) -> u16
     requires { ⌜ Known (now number) k a × Known (now number) k b × (k ≤ mostVertices) ⌝ }
     requires { ⌜ k * k ≤ length (now table) ⌝ }
-    ensures { λ r. ⌜ r ≡ secondAt (entryOf (now (number .entry)) k) (now (table .entry)) a b ⌝ }
+    ensures { λ r. ⌜ r ≡ secondAt (entryOf (old number) k) (old table) a b ⌝ }
 {
     let up = side_table::entry(number, k, a, b);
     let down = side_table::entry(number, k, b, a);
@@ -150,7 +151,7 @@ pub fn second_mark(table: &[u16], number: &[u16], k: usize, a: usize, b: usize) 
 fn lonely_side(table: &[u16], number: &[u16], k: usize, a: usize, b: usize) -> bool
     requires { ⌜ Known (now number) k a × Known (now number) k b × (k ≤ mostVertices) ⌝ }
     requires { ⌜ k * k ≤ length (now table) ⌝ }
-    ensures { λ r. ⌜ r ≡ lonely (entryOf (now (number .entry)) k) (now (table .entry)) (a, b) ⌝ }
+    ensures { λ r. ⌜ r ≡ lonely (entryOf (old number) k) (old table) (a, b) ⌝ }
 {
     if a == b {
         return false;
@@ -162,7 +163,7 @@ fn lonely_side(table: &[u16], number: &[u16], k: usize, a: usize, b: usize) -> b
 fn lonely_face(table: &[u16], number: &[u16], k: usize, face: &[u32]) -> bool
     requires { ⌜ Each 0 (Known (now number) k) (now face) × (k ≤ mostVertices) ⌝ }
     requires { ⌜ k * k ≤ length (now table) ⌝ }
-    ensures { λ r. ⌜ r ≡ lonelyFace (entryOf (now (number .entry)) k) (now (table .entry)) (now (face .entry)) ⌝ }
+    ensures { λ r. ⌜ r ≡ lonelyFace (entryOf (old number) k) (old table) (old face) ⌝ }
 {
     let n = face.len();
     let mut i = 0;
@@ -181,8 +182,8 @@ fn lonely_face(table: &[u16], number: &[u16], k: usize, face: &[u32]) -> bool
 fn lonely_faces(table: &[u16], number: &[u16], k: usize, corners: &[u32], ends: &[u32]) -> bool
     requires { ⌜ Numbered (now number) k (now corners) (now ends) ⌝ }
     requires { ⌜ k * k ≤ length (now table) ⌝ }
-    ensures { λ r. ⌜ r ≡ lonelyFaces (entryOf (now (number .entry)) k) (now (table .entry))
-        (facesOf (now (corners .entry)) (now (ends .entry))) ⌝ }
+    ensures { λ r. ⌜ r ≡ lonelyFaces (entryOf (old number) k) (old table)
+        (facesOf (old corners) (old ends)) ⌝ }
 {
     let n = ends.len();
     let mut start = 0;
@@ -202,7 +203,7 @@ fn lonely_faces(table: &[u16], number: &[u16], k: usize, corners: &[u32], ends: 
 fn doubled_face(stamp: &mut [u16], face: &[u32], own: u16) -> bool
     requires { ⌜ Each 0 (λ x. x < mostVertices) (now face) ⌝ }
     requires { ⌜ (length (now stamp) ≡ mostVertices) × Fresh own (now stamp) ⌝ }
-    ensures { λ r. ⌜ (r ≡ doubled (now (face .entry))) × Fresh (own + 1) (now (stamp .exit)) ⌝ }
+    ensures { λ r. ⌜ (r ≡ doubled (old face)) × Fresh (own + 1) (new stamp) ⌝ }
 {
     let n = face.len();
     let mut i = 0;
@@ -222,7 +223,7 @@ fn doubled_faces(stamp: &mut [u16], corners: &[u32], ends: &[u32]) -> bool
     requires { ⌜ Each 0 (λ x. x < mostVertices) (now corners) × T (rises 0 (now ends) (length (now corners)))
         × (length (now ends) ≤ mostFaces) ⌝ }
     requires { ⌜ (length (now stamp) ≡ mostVertices) × Blank (now stamp) ⌝ }
-    ensures { λ r. ⌜ r ≡ anyOf doubled (facesOf (now (corners .entry)) (now (ends .entry))) ⌝ }
+    ensures { λ r. ⌜ r ≡ anyOf doubled (facesOf (old corners) (old ends)) ⌝ }
 {
     let n = ends.len();
     let mut start = 0;
@@ -242,7 +243,7 @@ fn doubled_faces(stamp: &mut [u16], corners: &[u32], ends: &[u32]) -> bool
 fn any_doubled(corners: &[u32], ends: &[u32]) -> bool
     requires { ⌜ Each 0 (λ x. x < mostVertices) (now corners) × T (rises 0 (now ends) (length (now corners)))
         × (length (now ends) ≤ mostFaces) ⌝ }
-    ensures { λ r. ⌜ r ≡ anyOf doubled (facesOf (now (corners .entry)) (now (ends .entry))) ⌝ }
+    ensures { λ r. ⌜ r ≡ anyOf doubled (facesOf (old corners) (old ends)) ⌝ }
 {
     let mut stamp = [0u16; places::limits::MOST_VERTICES];
     doubled_faces(&mut stamp, corners, ends)
@@ -253,9 +254,9 @@ fn any_doubled(corners: &[u32], ends: &[u32]) -> bool
 pub fn pair_up(table: &mut [u16], number: &[u16], k: usize, corners: &[u32], ends: &[u32]) -> bool
     requires { ⌜ Numbered (now number) k (now corners) (now ends) × (length (now ends) ≤ mostFaces) ⌝ }
     requires { ⌜ (k * k ≤ length (now table)) × Blank (now table) ⌝ }
-    ensures { λ r. ⌜ r ≡ not (unfit (facesOf (now (corners .entry)) (now (ends .entry)))) ⌝ }
-    ensures { λ r. ⌜ (r ≡ true → Mates (Known (now (number .entry)) k) (entryOf (now (number .entry)) k) (now (table .exit))
-        (facesOf (now (corners .entry)) (now (ends .entry)))) ⌝ }
+    ensures { λ r. ⌜ r ≡ not (unfit (facesOf (old corners) (old ends))) ⌝ }
+    ensures { λ r. ⌜ (r ≡ true → Mates (Known (old number) k) (entryOf (old number) k) (new table)
+        (facesOf (old corners) (old ends))) ⌝ }
 {
     if !put_faces(table, number, k, corners, ends) {
         return false;

@@ -13,7 +13,7 @@ use Rattle.shared_sides.proofs.doubled_face.Tie as tie
 
 abbrev Inv-loop : tie.InvT-loop
 Inv-loop stamp₀ face own n i₀ stamp i =
-    (n ≡ length face) × (length stamp ≡ length stamp₀) × Stamping stamp own face (doubled face) i
+    (length stamp ≡ length stamp₀) × Stamping stamp own face (doubled face) i
 
 abbrev μ-loop : tie.MeasureT-loop
 μ-loop stamp₀ face own n i₀ stamp i = n - i
@@ -21,7 +21,7 @@ abbrev μ-loop : tie.MeasureT-loop
 loop-holds : tie.Need-loop-holds Inv-loop μ-loop
 loop-holds c =
     let pre = c .before .before .pre in
-    (refl, refl, stamp-start _ (pre .1 .1))
+    (refl, stamp-start _ (pre .1 .1))
 
 slice-read-if1 : tie.Need-slice-read-if1 Inv-loop μ-loop
 slice-read-if1 c =
@@ -30,11 +30,11 @@ slice-read-if1 c =
     let below : corner .result < 256 = each-at _ (start .pre .0) (omega arith) (corner .ensures .0) in
     omega arith
 
-returns : tie.Need-returns Inv-loop μ-loop
-returns c =
+corner-again : tie.Need-returns Inv-loop μ-loop
+corner-again c =
     let corner = c .before .before .corner in
     let loop = c .before .before .before .before .loop in
-    (stamp-yes (loop .inv .2) (omega arith) (corner .ensures .0) (c .if1 .taken), loop .inv .2 .fresh)
+    (stamp-yes (loop .inv .1) (omega arith) (corner .ensures .0) (c .if1 .taken), loop .inv .1 .fresh)
 
 slice-write-stamp : tie.Need-slice-write-stamp Inv-loop μ-loop
 slice-write-stamp c =
@@ -49,12 +49,12 @@ loop-again c =
     let loop = c .before .before .before .before .loop in
     let start : tie.Start Inv-loop μ-loop = search in
     let below : corner .result < 256 = each-at _ (start .pre .0) (omega arith) (corner .ensures .0) in
-    (loop .inv .0, search needs, stamp-no (loop .inv .2) (omega arith) (corner .ensures .0) (omega arith) (c .if1 .left))
+    (search needs, stamp-no (loop .inv .1) (omega arith) (corner .ensures .0) (omega arith) (c .if1 .left))
 
-returns-2 : tie.Need-returns-2 Inv-loop μ-loop
-returns-2 c =
+no-corner-again : tie.Need-returns-2 Inv-loop μ-loop
+no-corner-again c =
     let loop = c .before .loop in
-    (stamp-end (loop .inv .2) (omega arith), loop .inv .2 .fresh)
+    (stamp-end (loop .inv .1) (omega arith), loop .inv .1 .fresh)
 
 pub doubled-face-spec : {M : Type 1} → statement M
 doubled-face-spec =
@@ -66,10 +66,10 @@ doubled-face-spec =
     (λ c κs. search needs) (λ c. search needs)
     slice-read-if1
     (λ c. search needs)
-    returns
+    corner-again
     (λ c. search needs)
     slice-write-stamp
     (λ c. search needs) (λ c. search needs)
     loop-again
     (λ c. search needs)
-    returns-2)
+    no-corner-again)

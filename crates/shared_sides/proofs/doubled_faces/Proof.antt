@@ -17,7 +17,7 @@ use Rattle.shared_sides.proofs.doubled_faces.Tie as tie
 
 abbrev Inv-loop : tie.InvT-loop
 Inv-loop stamp₀ corners ends n start₀ j₀ stamp start j =
-    (n ≡ length ends) × (length stamp ≡ length stamp₀) × Fresh (j + 1) stamp ×
+    (length stamp ≡ length stamp₀) × Fresh (j + 1) stamp ×
     FaceAsking doubled corners ends (anyOf doubled (facesOf corners ends)) start j
 
 abbrev μ-loop : tie.MeasureT-loop
@@ -26,12 +26,12 @@ abbrev μ-loop : tie.MeasureT-loop
 loop-holds : tie.Need-loop-holds Inv-loop μ-loop
 loop-holds c =
     let pre = c .before .before .before .pre in
-    (refl, refl, fresh-none (pre .1 .1), faces-start (pre .0 .1) refl)
+    (refl, fresh-none (pre .1 .1), faces-start (pre .0 .1) refl)
 
 face-requires : tie.Need-face-requires Inv-loop μ-loop
 face-requires c κs =
     let loop = c .before .before .before .loop in
-    let step = faces-step (loop .inv .3) (omega arith) (c .before .corner .ensures .0) in
+    let step = faces-step (loop .inv .2) (omega arith) (c .before .corner .ensures .0) in
     (step .from, step .upto)
 
 doubled-face-requires : tie.Need-doubled-face-requires Inv-loop μ-loop
@@ -39,23 +39,23 @@ doubled-face-requires c κs =
     let corner = c .before .before .corner in
     let loop = c .before .before .before .before .loop in
     let start : tie.Start Inv-loop μ-loop = search in
-    (each-face (loop .start) (corner .result) _ (start .pre .0 .0) (c .face .ensures), (omega arith, loop .inv .2))
+    (each-face (loop .start) (corner .result) _ (start .pre .0 .0) (c .face .ensures), (omega arith, loop .inv .1))
 
-returns : tie.Need-returns Inv-loop μ-loop
-returns c =
-    let corner = c .before .before .before .before .before .before .corner in
-    let loop = c .before .before .before .before .before .before .before .before .loop in
-    faces-yes (loop .inv .3) (omega arith) (corner .ensures .0) (cc)
+one-doubled : tie.Need-returns Inv-loop μ-loop
+one-doubled c =
+    let record { before = _; corner = corner } : tie.After-corner Inv-loop μ-loop = search in
+    let record { before = _; loop = loop } : tie.At-loop Inv-loop μ-loop = search in
+    faces-yes (loop .inv .2) (omega arith) (corner .ensures .0) (cc)
 
 loop-again : tie.Need-loop-again Inv-loop μ-loop
 loop-again c =
     let doubled-face = c .before .before .before .doubled-face in
-    let corner = c .before .before .before .before .before .before .corner in
-    let loop = c .before .before .before .before .before .before .before .before .loop in
-    (loop .inv .0, omega arith, doubled-face .ensures .1, faces-no (loop .inv .3) (omega arith) (corner .ensures .0) (cc))
+    let record { before = _; corner = corner } : tie.After-corner Inv-loop μ-loop = search in
+    let record { before = _; loop = loop } : tie.At-loop Inv-loop μ-loop = search in
+    (omega arith, doubled-face .ensures .1, faces-no (loop .inv .2) (omega arith) (corner .ensures .0) (cc))
 
-returns-2 : tie.Need-returns-2 Inv-loop μ-loop
-returns-2 c = faces-end (c .before .loop .inv .3) (omega arith)
+none-doubled : tie.Need-returns-2 Inv-loop μ-loop
+none-doubled c = faces-end (c .before .loop .inv .2) (omega arith)
 
 pub doubled-faces-spec : {M : Type 1} → statement M
 doubled-faces-spec =
@@ -69,8 +69,8 @@ doubled-faces-spec =
     (λ c. search needs) (λ c. search needs)
     doubled-face-requires
     (λ c. search needs)
-    returns
+    one-doubled
     (λ c. search needs) (λ c. search needs)
     loop-again
     (λ c. search needs)
-    returns-2)
+    none-doubled)

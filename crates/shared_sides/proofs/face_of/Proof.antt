@@ -4,16 +4,16 @@ use borrow.Author.Needs.{needs}
 use Rattle.shared_sides.proofs.face_of.Statement.{statement}
 use Rattle.shared_sides.proofs.face_of.Tie as tie
 
-returns : tie.Need-returns
-returns c = rw (lt-ltb (c .before .args .m) 257 (c .if1 .taken))
+runs-up : tie.Need-returns
+runs-up c = rw (lt-ltb (c .before .args .m) 257 (c .if1 .taken))
 
-returns-2 : tie.Need-returns-2
-returns-2 c = rw (le-ltb (c .before .args .m) 257 (c .if1 .left))
+runs-down : tie.Need-returns-2
+runs-down c = rw (le-ltb (c .before .args .m) 257 (c .if1 .left))
 
 pub face-of-spec : {M : Type 1} → statement M
 face-of-spec =
     tie.close
     (tie.spec
     (λ c. search needs) (λ c. search needs)
-    returns
-    returns-2)
+    runs-up
+    runs-down)

@@ -2,8 +2,7 @@
 use native.Mathlib.Omega.{arith}
 use borrow.Author.Needs.{needs}
 use Prim.Native.Nat.{_-_}
-use lib.ListN.{length}
-use mathlib.Core.Path.{_≡_, refl}
+use mathlib.Core.Path.{refl}
 use Rattle.places.specs.Ring.{sides}
 use Rattle.places.proofs.Rings.{length-sides, side-at}
 use Rattle.places.proofs.Loops.{Asking, ask-start, ask-yes, ask-no, ask-end}
@@ -15,14 +14,14 @@ use Rattle.shared_sides.proofs.lonely_face.Tie as tie
 
 abbrev Inv-loop : tie.InvT-loop
 Inv-loop table number k face n i₀ i =
-    (n ≡ length face) × Asking (lonely (entryOf number k) table) (sides face) (lonelyFace (entryOf number k) table face) i
+    Asking (lonely (entryOf number k) table) (sides face) (lonelyFace (entryOf number k) table face) i
 
 abbrev μ-loop : tie.MeasureT-loop
 μ-loop table number k face n i₀ i = n - i
 
 loop-holds : tie.Need-loop-holds Inv-loop μ-loop
 unfolding lonelyFace
-loop-holds c = (refl, ask-start refl)
+loop-holds c = ask-start refl
 
 lonely-side-requires : tie.Need-lonely-side-requires Inv-loop μ-loop
 lonely-side-requires c κs =
@@ -37,28 +36,26 @@ lonely-side-requires c κs =
       pre .1,
     )
 
-returns : tie.Need-returns Inv-loop μ-loop
-returns c =
-    let loop = c .before .before .before .before .before .before .loop in
+one-lonely : tie.Need-returns Inv-loop μ-loop
+one-lonely c =
+    let record { before = _; loop = loop } : tie.At-loop Inv-loop μ-loop = search in
     let start : tie.Start Inv-loop μ-loop = search in
     let args = start .args in
-    ask-yes (0, 0) (loop .inv .1) (omega (arith, length-sides (args .face .now)))
+    ask-yes (0, 0) (loop .inv) (omega (arith, length-sides (args .face .now)))
     (cc (side-at (args .face .now) (loop .i) 0 (omega arith)))
 
 loop-again : tie.Need-loop-again Inv-loop μ-loop
 loop-again c =
-    let loop = c .before .before .before .before .before .before .loop in
+    let record { before = _; loop = loop } : tie.At-loop Inv-loop μ-loop = search in
     let start : tie.Start Inv-loop μ-loop = search in
-    let args = start .args in (
-      loop .inv .0,
-      ask-no (0, 0) (loop .inv .1) (omega (arith, length-sides (args .face .now)))
-          (cc (side-at (args .face .now) (loop .i) 0 (omega arith))),
-    )
+    let args = start .args in
+    ask-no (0, 0) (loop .inv) (omega (arith, length-sides (args .face .now)))
+    (cc (side-at (args .face .now) (loop .i) 0 (omega arith)))
 
-returns-2 : tie.Need-returns-2 Inv-loop μ-loop
-returns-2 c =
+none-lonely : tie.Need-returns-2 Inv-loop μ-loop
+none-lonely c =
     let start : tie.Start Inv-loop μ-loop = search in
-    ask-end (c .before .loop .inv .1) (omega (arith, length-sides (start .args .face .now)))
+    ask-end (c .before .loop .inv) (omega (arith, length-sides (start .args .face .now)))
 
 pub lonely-face-spec : {M : Type 1} → statement M
 lonely-face-spec =
@@ -69,7 +66,7 @@ lonely-face-spec =
     loop-holds
     (λ c κs. search needs) (λ c κs. search needs) (λ c κs. search needs)
     lonely-side-requires
-    returns
+    one-lonely
     (λ c. search needs) (λ c. search needs)
     loop-again
-    returns-2)
+    none-lonely)

@@ -2,8 +2,7 @@
 use native.Mathlib.Omega.{arith}
 use borrow.Author.Needs.{needs}
 use Prim.Native.Nat.{_-_}
-use lib.ListN.{length}
-use mathlib.Core.Path.{_≡_, refl}
+use mathlib.Core.Path.{refl}
 use Rattle.cell.specs.Faces.{facesOf}
 use Rattle.cell.proofs.Faces.{FaceAsking, faces-start, faces-step, faces-yes, faces-no, faces-end}
 use Rattle.shared_sides.specs.Steps.{lonelyFace, lonelyFaces}
@@ -15,7 +14,6 @@ use Rattle.shared_sides.proofs.lonely_faces.Tie as tie
 
 abbrev Inv-loop : tie.InvT-loop
 Inv-loop table number k corners ends n start₀ j₀ start j =
-    (n ≡ length ends) ×
     FaceAsking (lonelyFace (entryOf number k) table) corners ends (lonelyFaces (entryOf number k) table (facesOf corners ends))
     start j
 
@@ -26,12 +24,12 @@ loop-holds : tie.Need-loop-holds Inv-loop μ-loop
 unfolding lonelyFaces
 loop-holds c =
     let pre = c .before .before .before .before .pre in
-    (refl, faces-start (pre .0 .ordered) refl)
+    faces-start (pre .0 .ordered) refl
 
 face-requires : tie.Need-face-requires Inv-loop μ-loop
 face-requires c κs =
     let loop = c .before .before .loop in
-    let step = faces-step (loop .inv .1) (omega arith) (c .corner .ensures .0) in
+    let step = faces-step (loop .inv) (omega arith) (c .corner .ensures .0) in
     (step .from, step .upto)
 
 lonely-face-requires : tie.Need-lonely-face-requires Inv-loop μ-loop
@@ -43,20 +41,20 @@ lonely-face-requires c κs =
       pre .1,
     )
 
-returns : tie.Need-returns Inv-loop μ-loop
-returns c =
+one-lonely : tie.Need-returns Inv-loop μ-loop
+one-lonely c =
     let corner = c .before .before .before .corner in
-    let loop = c .before .before .before .before .before .loop in
-    faces-yes (loop .inv .1) (omega arith) (corner .ensures .0) (cc)
+    let record { before = _; loop = loop } : tie.At-loop Inv-loop μ-loop = search in
+    faces-yes (loop .inv) (omega arith) (corner .ensures .0) (cc)
 
 loop-again : tie.Need-loop-again Inv-loop μ-loop
 loop-again c =
     let corner = c .before .before .before .corner in
-    let loop = c .before .before .before .before .before .loop in
-    (loop .inv .0, faces-no (loop .inv .1) (omega arith) (corner .ensures .0) (cc))
+    let record { before = _; loop = loop } : tie.At-loop Inv-loop μ-loop = search in
+    faces-no (loop .inv) (omega arith) (corner .ensures .0) (cc)
 
-returns-2 : tie.Need-returns-2 Inv-loop μ-loop
-returns-2 c = faces-end (c .before .loop .inv .1) (omega arith)
+none-lonely : tie.Need-returns-2 Inv-loop μ-loop
+none-lonely c = faces-end (c .before .loop .inv) (omega arith)
 
 pub lonely-faces-spec : {M : Type 1} → statement M
 lonely-faces-spec =
@@ -68,7 +66,7 @@ lonely-faces-spec =
     (λ c κs. search needs)
     face-requires
     lonely-face-requires
-    returns
+    one-lonely
     (λ c. search needs) (λ c. search needs)
     loop-again
-    returns-2)
+    none-lonely)

@@ -5,15 +5,15 @@ use borrow.Author.Needs.{needs}
 use Rattle.shared_sides.proofs.lonely_side.Statement.{statement}
 use Rattle.shared_sides.proofs.lonely_side.Tie as tie
 
-returns : tie.Need-returns
+no-side : tie.Need-returns
 unfolding lonely
-returns c =
+no-side c =
     let args = c .before .before .before .args in
     rw (eq-eqb (args .a) (args .b) (c .if1 .taken))
 
-returns-2 : tie.Need-returns-2
+second-asked : tie.Need-returns-2
 unfolding lonely
-returns-2 c =
+second-asked c =
     let args = c .before .before .before .before .args in
     rw (ne-eqb (args .a) (args .b) (c .before .if1 .left), c .second-mark .ensures)
 
@@ -21,6 +21,6 @@ pub lonely-side-spec : {M : Type 1} → statement M
 lonely-side-spec =
     tie.close
     (tie.spec
-    returns
+    no-side
     (λ c κs. search needs)
-    returns-2)
+    second-asked)

@@ -4,16 +4,16 @@ use borrow.Author.Needs.{needs}
 use Rattle.shared_sides.proofs.mark.Statement.{statement}
 use Rattle.shared_sides.proofs.mark.Tie as tie
 
-returns : tie.Need-returns
-returns c = (rw (c .if1 .taken), omega arith)
+runs-down : tie.Need-returns
+runs-down c = (rw (c .if1 .taken), omega arith)
 
-returns-2 : tie.Need-returns-2
-returns-2 c = (rw (c .if1 .left), omega arith)
+runs-up : tie.Need-returns-2
+runs-up c = (rw (c .if1 .left), omega arith)
 
 pub mark-spec : {M : Type 1} → statement M
 mark-spec =
     tie.close
     (tie.spec
     (λ c. search needs) (λ c. search needs) (λ c. search needs) (λ c. search needs)
-    returns
-    returns-2)
+    runs-down
+    runs-up)

@@ -17,8 +17,8 @@ put-faces-requires c κs =
     let pre = start .pre in
     (ready-blank (pre .0 .0 .numbering) (pre .1 .0) (pre .1 .1), pre .0)
 
-returns : tie.Need-returns
-returns c =
+third-mark : tie.Need-returns
+third-mark c =
     let put-faces = c .before .before .before .put-faces in
     let start : tie.Start = search in
     let args = start .args in
@@ -27,10 +27,10 @@ returns c =
       λ e. absurd (false≢true e),
     )
 
-returns-2 : tie.Need-returns-2
-returns-2 c =
+one-lonely : tie.Need-returns-2
+one-lonely c =
     let if1 = c .before .before .before .if1 in
-    let put-faces = c .before .before .before .before .before .before .put-faces in
+    let record { before = _; put-faces = put-faces } : tie.After-put-faces = search in
     let start : tie.Start = search in
     let args = start .args in
     let pre = start .pre in
@@ -46,11 +46,11 @@ any-doubled-requires c κs =
     let pre = start .pre in
     (known-below (pre .0 .0 .numbering) (pre .0 .0 .known), pre .0 .0 .ordered, pre .0 .1)
 
-returns-3 : tie.Need-returns-3
-returns-3 c =
+all-in-pairs : tie.Need-returns-3
+all-in-pairs c =
     let lonely-faces = c .before .before .lonely-faces in
     let if1 = c .before .before .before .before .if1 in
-    let put-faces = c .before .before .before .before .before .before .before .put-faces in
+    let record { before = _; put-faces = put-faces } : tie.After-put-faces = search in
     let start : tie.Start = search in
     let args = start .args in
     let pre = start .pre in
@@ -68,9 +68,9 @@ pair-up-spec =
     (tie.spec
     put-faces-requires
     (λ c. search needs)
-    returns
+    third-mark
     (λ c κs. search needs) (λ c. search needs)
-    returns-2
+    one-lonely
     any-doubled-requires
     (λ c. search needs)
-    returns-3)
+    all-in-pairs)

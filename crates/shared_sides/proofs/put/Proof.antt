@@ -6,8 +6,8 @@ use borrow.Author.Needs.{needs}
 use Rattle.shared_sides.proofs.put.Statement.{statement}
 use Rattle.shared_sides.proofs.put.Tie as tie
 
-returns : tie.Need-returns
-returns c =
+put-at-first : tie.Need-returns
+put-at-first c =
     let entry = c .before .before .entry in
     let start : tie.Start = search in
     let args = start .args in
@@ -17,11 +17,11 @@ returns c =
     (put-first (entries (pre .0 .numbering)) (args .table .now) (pre .0 .wide) (args .m) (pre .1 .0) (pre .1 .1) (pre .1 .2)
     (pre .1 .3) (pre .0 .sane) (rw e at (c .if1 .taken)))
 
-returns-2 : tie.Need-returns-2
-returns-2 c =
+put-at-second : tie.Need-returns-2
+put-at-second c =
     let entry2 = c .before .before .entry2 in
     let if1 = c .before .before .before .if1 in
-    let entry = c .before .before .before .before .before .entry in
+    let record { before = _; entry = entry } : tie.After-entry = search in
     let start : tie.Start = search in
     let args = start .args in
     let pre = start .pre in
@@ -32,11 +32,11 @@ returns-2 c =
     (put-second (entries (pre .0 .numbering)) (args .table .now) (pre .0 .wide) (args .m) (pre .1 .0) (pre .1 .1) (pre .1 .2)
     (pre .1 .3) (pre .0 .sane) taken (rw g at (c .if2 .taken)))
 
-returns-3 : tie.Need-returns-3
-returns-3 c =
+third-mark : tie.Need-returns-3
+third-mark c =
     let entry2 = c .before .before .entry2 in
     let if1 = c .before .before .before .if1 in
-    let entry = c .before .before .before .before .before .entry in
+    let record { before = _; entry = entry } : tie.After-entry = search in
     let start : tie.Start = search in
     let args = start .args in
     let pre = start .pre in
@@ -51,7 +51,7 @@ put-spec =
     tie.close
     (tie.spec
     (λ c κs. search needs) (λ c. search needs) (λ c. search needs) (λ c. search needs) (λ c. search needs) (λ c. search needs)
-    returns
+    put-at-first
     (λ c κs. search needs) (λ c. search needs) (λ c. search needs) (λ c. search needs) (λ c. search needs) (λ c. search needs)
-    returns-2
-    returns-3)
+    put-at-second
+    third-mark)

@@ -8,6 +8,7 @@ ghost use mathlib.Core.List.{[], _∷_};
 ghost use Prim.Native.Nat.{ℕ, _+_, _*_, _<_, _≤_};
 ghost use lib.Dec.{T, eqb};
 ghost use lib.ListN.{length, getD};
+ghost use Rattle.places.specs.Lent.{old, new};
 ghost use Rattle.places.specs.Limits.{mostVertices, mostFaces, mostCorners};
 ghost use Rattle.places.specs.Lists.{Each};
 ghost use Rattle.places.specs.Ring.{sides};
@@ -34,7 +35,7 @@ struct Reached {
 fn neighbour(table: &[u16], number: &[u16], k: usize, a: usize, b: usize, f: usize) -> u16
     requires { ⌜ Known (now number) k a × Known (now number) k b × (k ≤ mostVertices) ⌝ }
     requires { ⌜ (k * k ≤ length (now table)) × (a ≢ b → 0 < firstAt (entryOf (now number) k) (now table) a b) ⌝ }
-    ensures { λ r. ⌜ r ≡ neighbourOf (entryOf (now (number .entry)) k) (now (table .entry)) a b f ⌝ }
+    ensures { λ r. ⌜ r ≡ neighbourOf (entryOf (old number) k) (old table) a b f ⌝ }
 {
     if a == b {
         return 0;
@@ -65,7 +66,7 @@ fn against(m: u16, up: bool) -> u8
 fn meet(code: &mut [u8], list: &mut [u8], tail: usize, m: u16, up: bool) -> usize
     requires { ⌜ (0 < m → faceOf m < length (now code)) × (length (now code) ≤ mostFaces) ⌝ }
     requires { ⌜ (0 < m → getD (now code) (faceOf m) 0 ≡ 0 → tail < length (now list)) × (length (now list) ≤ mostFaces) ⌝ }
-    ensures { λ r. ⌜ Met (now (code .entry)) (now (list .entry)) tail m up (now (code .exit)) (now (list .exit)) r ⌝ }
+    ensures { λ r. ⌜ Met (old code) (old list) tail m up (new code) (new list) r ⌝ }
 {
     if m == 0 {
         return tail;
@@ -92,7 +93,7 @@ fn ask(
 ) -> Reached
     requires { ⌜ Ground (now number) k (now table) (now corners) (now ends) ⌝ }
     requires { ⌜ Spread (facesOf (now corners) (now ends)) (now code) (now list) (at .low) (at .head) (at .tail) × (at .head < at .tail) ⌝ }
-    ensures { λ r. ⌜ Spread (facesOf (now (corners .entry)) (now (ends .entry))) (now (code .exit)) (now (list .exit)) (r .low) (r .head)
+    ensures { λ r. ⌜ Spread (facesOf (old corners) (old ends)) (new code) (new list) (r .low) (r .head)
         (r .tail) × (r .head ≡ at .head + 1) ⌝ }
 {
     let low = at.low;
@@ -120,8 +121,8 @@ fn ask(
 // The first face from `from` on that is not reached.
 fn next_unreached(code: &[u8], from: usize) -> usize
     requires { ⌜ ((f : ℕ) → f < from → 0 < getD (now code) f 0) × (from ≤ length (now code)) ⌝ }
-    ensures { λ r. ⌜ ((f : ℕ) → f < r → 0 < getD (now (code .entry)) f 0)
-        × (r < length (now (code .entry)) → getD (now (code .entry)) r 0 ≡ 0) × (r ≤ length (now (code .entry))) ⌝ }
+    ensures { λ r. ⌜ ((f : ℕ) → f < r → 0 < getD (old code) f 0)
+        × (r < length (old code) → getD (old code) r 0 ≡ 0) × (r ≤ length (old code)) ⌝ }
 {
     let n = code.len();
     let mut f = from;
@@ -137,7 +138,7 @@ fn next_unreached(code: &[u8], from: usize) -> usize
 // Where all faces in the list have asked, the lowest that is not reached keeps its direction and comes into the list.
 fn seed(code: &mut [u8], list: &mut [u8], at: Reached) -> Reached
     requires { ⌜ Waiting (now code) (now list) (at .low) (at .head) (at .tail) ⌝ }
-    ensures { λ r. ⌜ Seeded (now (code .entry)) (now (list .entry)) (at .low) (at .head) (at .tail) (now (code .exit)) (now (list .exit))
+    ensures { λ r. ⌜ Seeded (old code) (old list) (at .low) (at .head) (at .tail) (new code) (new list)
         (r .low) (r .head) (r .tail) ⌝ }
 {
     let head = at.head;
@@ -169,7 +170,7 @@ fn step(
     requires { ⌜ Ground (now number) k (now table) (now corners) (now ends) ⌝ }
     requires { ⌜ Spread (facesOf (now corners) (now ends)) (now code) (now list) (at .low) (at .head) (at .tail)
         × (at .head < length (now ends)) ⌝ }
-    ensures { λ r. ⌜ Spread (facesOf (now (corners .entry)) (now (ends .entry))) (now (code .exit)) (now (list .exit)) (r .low) (r .head)
+    ensures { λ r. ⌜ Spread (facesOf (old corners) (old ends)) (new code) (new list) (r .low) (r .head)
         (r .tail) × (r .head ≡ at .head + 1) ⌝ }
 {
     let ready = seed(code, list, at);
@@ -188,7 +189,7 @@ fn reach_over(
 )
     requires { ⌜ Ground (now number) k (now table) (now corners) (now ends) ⌝ }
     requires { ⌜ Blank (now code) × (length (now code) ≡ length (now ends)) × (length (now list) ≡ length (now ends)) ⌝ }
-    ensures { λ _. ⌜ Whole (facesOf (now (corners .entry)) (now (ends .entry))) (now (code .exit)) ⌝ }
+    ensures { λ _. ⌜ Whole (facesOf (old corners) (old ends)) (new code) ⌝ }
 {
     let n = ends.len();
     let mut at = Reached {
@@ -205,7 +206,7 @@ fn reach_over(
 fn reach(table: &[u16], number: &[u16], k: usize, corners: &[u32], ends: &[u32], code: &mut [u8])
     requires { ⌜ Ground (now number) k (now table) (now corners) (now ends) ⌝ }
     requires { ⌜ Blank (now code) × (length (now code) ≡ length (now ends)) ⌝ }
-    ensures { λ _. ⌜ Whole (facesOf (now (corners .entry)) (now (ends .entry))) (now (code .exit)) ⌝ }
+    ensures { λ _. ⌜ Whole (facesOf (old corners) (old ends)) (new code) ⌝ }
 {
     let n = ends.len();
     let mut list = [0u8; places::limits::MOST_FACES];
@@ -215,7 +216,7 @@ fn reach(table: &[u16], number: &[u16], k: usize, corners: &[u32], ends: &[u32],
 // Whether the face that left a mark, as its code turns it, runs the side up.
 fn mark_runs_up(code: &[u8], m: u16) -> bool
     requires { ⌜ (0 < m) × (faceOf m < length (now code)) ⌝ }
-    ensures { λ r. ⌜ r ≡ runsUp (codeChoice (now (code .entry)) (faceOf m)) m ⌝ }
+    ensures { λ r. ⌜ r ≡ runsUp (codeChoice (old code) (faceOf m)) m ⌝ }
 {
     let f = shared_sides::face_of(m);
     (code[f] == 2) == shared_sides::is_down(m)
@@ -225,7 +226,7 @@ fn mark_runs_up(code: &[u8], m: u16) -> bool
 fn clash_side(table: &[u16], number: &[u16], k: usize, code: &[u8], a: usize, b: usize) -> bool
     requires { ⌜ Known (now number) k a × Known (now number) k b × (k ≤ mostVertices) ⌝ }
     requires { ⌜ (k * k ≤ length (now table)) × Marked (entryOf (now number) k) (now table) (length (now code)) (a, b) ⌝ }
-    ensures { λ r. ⌜ r ≡ clash (entryOf (now (number .entry)) k) (now (table .entry)) (now (code .entry)) (a, b) ⌝ }
+    ensures { λ r. ⌜ r ≡ clash (entryOf (old number) k) (old table) (old code) (a, b) ⌝ }
 {
     if a == b {
         return false;
@@ -247,8 +248,8 @@ fn clash_face(
 ) -> bool
     requires { ⌜ Ground (now number) k (now table) (now corners) (now ends) ⌝ }
     requires { ⌜ (length (now code) ≡ length (now ends)) × (f < length (now ends)) ⌝ }
-    ensures { λ r. ⌜ r ≡ clashFace (entryOf (now (number .entry)) k) (now (table .entry)) (now (code .entry))
-        (getD (facesOf (now (corners .entry)) (now (ends .entry))) f []) ⌝ }
+    ensures { λ r. ⌜ r ≡ clashFace (entryOf (old number) k) (old table) (old code)
+        (getD (facesOf (old corners) (old ends)) f []) ⌝ }
 {
     let face = cell::face_by_number(corners, ends, f);
     let n = face.len();
@@ -275,8 +276,8 @@ fn clash_faces(
 ) -> bool
     requires { ⌜ Ground (now number) k (now table) (now corners) (now ends) ⌝ }
     requires { ⌜ length (now code) ≡ length (now ends) ⌝ }
-    ensures { λ r. ⌜ r ≡ clashFaces (entryOf (now (number .entry)) k) (now (table .entry)) (now (code .entry))
-        (facesOf (now (corners .entry)) (now (ends .entry))) ⌝ }
+    ensures { λ r. ⌜ r ≡ clashFaces (entryOf (old number) k) (old table) (old code)
+        (facesOf (old corners) (old ends)) ⌝ }
 {
     let n = ends.len();
     let mut f = 0;
@@ -291,7 +292,7 @@ fn clash_faces(
 
 // A face in place, reversed where its code is 2; how many were: 1 or 0.
 fn reverse_by_code(face: &mut [u32], w: u8) -> usize
-    ensures turned { λ _. ⌜ now (face .exit) ≡ faceBy (eqb w 2) (now (face .entry)) ⌝ }
+    ensures turned { λ _. ⌜ new face ≡ faceBy (eqb w 2) (old face) ⌝ }
     ensures count { λ r. ⌜ r ≡ oneIf (eqb w 2) ⌝ }
 {
     if w != 2 {
@@ -306,9 +307,9 @@ fn reverse_by_code(face: &mut [u32], w: u8) -> usize
 pub fn reverse_faces(corners: &mut [u32], ends: &[u32], code: &[u8]) -> usize
     requires { ⌜ T (rises 0 (now ends) (length (now corners))) × (length (now corners) ≤ mostCorners) ⌝ }
     requires { ⌜ (length (now code) ≡ length (now ends)) × (length (now ends) ≤ mostFaces) ⌝ }
-    ensures list { λ _. ⌜ now (corners .exit) ≡ joined (reversedBy (codeChoice (now (code .entry)))
-        (facesOf (now (corners .entry)) (now (ends .entry)))) ⌝ }
-    ensures count { λ r. ⌜ r ≡ howMany (codeChoice (now (code .entry))) (length (now (ends .entry))) ⌝ }
+    ensures list { λ _. ⌜ new corners ≡ joined (reversedBy (codeChoice (old code))
+        (facesOf (old corners) (old ends))) ⌝ }
+    ensures count { λ r. ⌜ r ≡ howMany (codeChoice (old code)) (length (old ends)) ⌝ }
 {
     let n = ends.len();
     let mut count = 0;
@@ -336,7 +337,7 @@ fn choose_over(
 ) -> u8
     requires { ⌜ Numbered (now number) k (now corners) (now ends) × (length (now ends) ≤ mostFaces) ⌝ }
     requires { ⌜ (k * k ≤ length (now table)) × Blank (now table) × Blank (now code) × (length (now code) ≡ length (now ends)) ⌝ }
-    ensures { λ r. ⌜ Chosen (facesOf (now (corners .entry)) (now (ends .entry))) (now (code .exit)) r ⌝ }
+    ensures { λ r. ⌜ Chosen (facesOf (old corners) (old ends)) (new code) r ⌝ }
 {
     if !shared_sides::pair_up(table, number, k, corners, ends) {
         return 11;
@@ -352,7 +353,7 @@ fn choose_over(
 fn choose_16(number: &[u16], k: usize, corners: &[u32], ends: &[u32], code: &mut [u8]) -> u8
     requires { ⌜ Numbered (now number) k (now corners) (now ends) × (length (now ends) ≤ mostFaces) ⌝ }
     requires { ⌜ (k ≤ 16) × Blank (now code) × (length (now code) ≡ length (now ends)) ⌝ }
-    ensures { λ r. ⌜ Chosen (facesOf (now (corners .entry)) (now (ends .entry))) (now (code .exit)) r ⌝ }
+    ensures { λ r. ⌜ Chosen (facesOf (old corners) (old ends)) (new code) r ⌝ }
 {
     let mut table = [0u16; 256];
     choose_over(&mut table, number, k, corners, ends, code)
@@ -361,7 +362,7 @@ fn choose_16(number: &[u16], k: usize, corners: &[u32], ends: &[u32], code: &mut
 fn choose_32(number: &[u16], k: usize, corners: &[u32], ends: &[u32], code: &mut [u8]) -> u8
     requires { ⌜ Numbered (now number) k (now corners) (now ends) × (length (now ends) ≤ mostFaces) ⌝ }
     requires { ⌜ (k ≤ 32) × Blank (now code) × (length (now code) ≡ length (now ends)) ⌝ }
-    ensures { λ r. ⌜ Chosen (facesOf (now (corners .entry)) (now (ends .entry))) (now (code .exit)) r ⌝ }
+    ensures { λ r. ⌜ Chosen (facesOf (old corners) (old ends)) (new code) r ⌝ }
 {
     let mut table = [0u16; 1024];
     choose_over(&mut table, number, k, corners, ends, code)
@@ -370,7 +371,7 @@ fn choose_32(number: &[u16], k: usize, corners: &[u32], ends: &[u32], code: &mut
 fn choose_64(number: &[u16], k: usize, corners: &[u32], ends: &[u32], code: &mut [u8]) -> u8
     requires { ⌜ Numbered (now number) k (now corners) (now ends) × (length (now ends) ≤ mostFaces) ⌝ }
     requires { ⌜ (k ≤ 64) × Blank (now code) × (length (now code) ≡ length (now ends)) ⌝ }
-    ensures { λ r. ⌜ Chosen (facesOf (now (corners .entry)) (now (ends .entry))) (now (code .exit)) r ⌝ }
+    ensures { λ r. ⌜ Chosen (facesOf (old corners) (old ends)) (new code) r ⌝ }
 {
     let mut table = [0u16; 4096];
     choose_over(&mut table, number, k, corners, ends, code)
@@ -379,7 +380,7 @@ fn choose_64(number: &[u16], k: usize, corners: &[u32], ends: &[u32], code: &mut
 fn choose_128(number: &[u16], k: usize, corners: &[u32], ends: &[u32], code: &mut [u8]) -> u8
     requires { ⌜ Numbered (now number) k (now corners) (now ends) × (length (now ends) ≤ mostFaces) ⌝ }
     requires { ⌜ (k ≤ 128) × Blank (now code) × (length (now code) ≡ length (now ends)) ⌝ }
-    ensures { λ r. ⌜ Chosen (facesOf (now (corners .entry)) (now (ends .entry))) (now (code .exit)) r ⌝ }
+    ensures { λ r. ⌜ Chosen (facesOf (old corners) (old ends)) (new code) r ⌝ }
 {
     let mut table = [0u16; 16384];
     choose_over(&mut table, number, k, corners, ends, code)
@@ -388,7 +389,7 @@ fn choose_128(number: &[u16], k: usize, corners: &[u32], ends: &[u32], code: &mu
 fn choose_256(number: &[u16], k: usize, corners: &[u32], ends: &[u32], code: &mut [u8]) -> u8
     requires { ⌜ Numbered (now number) k (now corners) (now ends) × (length (now ends) ≤ mostFaces) ⌝ }
     requires { ⌜ (k ≤ mostVertices) × Blank (now code) × (length (now code) ≡ length (now ends)) ⌝ }
-    ensures { λ r. ⌜ Chosen (facesOf (now (corners .entry)) (now (ends .entry))) (now (code .exit)) r ⌝ }
+    ensures { λ r. ⌜ Chosen (facesOf (old corners) (old ends)) (new code) r ⌝ }
 {
     let mut table = [0u16; 65536];
     choose_over(&mut table, number, k, corners, ends, code)
@@ -400,7 +401,7 @@ pub fn choose(corners: &[u32], ends: &[u32], v: usize, code: &mut [u8]) -> u8
     requires { ⌜ Each 0 (λ c. c < v) (now corners) × (v ≤ mostVertices) ⌝ }
     requires { ⌜ (length (now corners) ≤ mostCorners) × T (rises 0 (now ends) (length (now corners))) × (length (now ends) ≤ mostFaces) ⌝ }
     requires { ⌜ Blank (now code) × (length (now code) ≡ length (now ends)) ⌝ }
-    ensures { λ r. ⌜ Chosen (facesOf (now (corners .entry)) (now (ends .entry))) (now (code .exit)) r ⌝ }
+    ensures { λ r. ⌜ Chosen (facesOf (old corners) (old ends)) (new code) r ⌝ }
 {
     let mut number = [256u16; places::limits::MOST_VERTICES];
     let k = side_table::number_all(&mut number, corners);
@@ -424,7 +425,7 @@ pub fn choose(corners: &[u32], ends: &[u32], v: usize, code: &mut [u8]) -> u8
 pub fn refusal(corners: &[u32], ends: &[u32], v: usize) -> u8
     requires { ⌜ Each 0 (λ c. c < v) (now corners) × (v ≤ mostVertices) ⌝ }
     requires { ⌜ (length (now corners) ≤ mostCorners) × T (rises 0 (now ends) (length (now corners))) × (length (now ends) ≤ mostFaces) ⌝ }
-    ensures { λ r. ⌜ r ≡ reversalRefusal (facesOf (now (corners .entry)) (now (ends .entry))) ⌝ }
+    ensures { λ r. ⌜ r ≡ reversalRefusal (facesOf (old corners) (old ends)) ⌝ }
 {
     let n = ends.len();
     let mut code = [0u8; places::limits::MOST_FACES];

@@ -3,16 +3,16 @@ use borrow.Author.Needs.{needs}
 use Rattle.facing.proofs.against.Statement.{statement}
 use Rattle.facing.proofs.against.Tie as tie
 
-returns : tie.Need-returns
-returns c = rw (← c .before .is-down .ensures, c .if1 .taken)
+keeps : tie.Need-returns
+keeps c = rw (← c .before .is-down .ensures, c .if1 .taken)
 
-returns-2 : tie.Need-returns-2
-returns-2 c = rw (← c .before .is-down .ensures, c .if1 .left)
+turns : tie.Need-returns-2
+turns c = rw (← c .before .is-down .ensures, c .if1 .left)
 
 pub against-spec : {M : Type 1} → statement M
 against-spec =
     tie.close
     (tie.spec
     (λ c κs. search needs)
-    returns
-    returns-2)
+    keeps
+    turns)

@@ -8,14 +8,14 @@ use Rattle.cell.specs.Faces.{facesOf}
 use Rattle.cell.proofs.Faces.{length-faces}
 use Rattle.side_table.proofs.Numbers.{few}
 use Rattle.facing.proofs.Spread.{spread-first}
-use Rattle.facing.proofs.Rounds.{OnFace, on-face, from-known, to-known, here-marked, meet-ready}
-use Rattle.facing.proofs.Rounds.{Round, round-start, round-below, round-more, round-end}
+use Rattle.facing.proofs.Rounds.{OnFace, on-face, from-known, to-known, here-marked, meet-ready, Round, round-start, round-below}
+use Rattle.facing.proofs.Rounds.{round-more, round-end}
 use Rattle.facing.proofs.ask.Statement.{statement}
 use Rattle.facing.proofs.ask.Tie as tie
 
 abbrev Inv-loop : tie.InvT-loop
 Inv-loop table number k corners ends code₀ list₀ low head f face w n tail₀ i₀ code list tail i =
-    (n ≡ length face) × (i ≤ n) × (length code ≡ length code₀) × (length list ≡ length list₀) ×
+    (i ≤ n) × (length code ≡ length code₀) × (length list ≡ length list₀) ×
     Round (facesOf corners ends) code list low head tail f w i
 
 abbrev μ-loop : tie.MeasureT-loop
@@ -27,7 +27,7 @@ module _ (c : tie.After-corner2 Inv-loop μ-loop) where
   at = c .before .before .before .before
 
   abbrev given : tie.Start Inv-loop μ-loop
-  given = at .before .before .before .before .before .before .before .before .before .before
+  given = search
 
   abbrev f : ℕ
   f = getD (given .args .list .now) (given .args .at .head) 0
@@ -37,9 +37,9 @@ module _ (c : tie.After-corner2 Inv-loop μ-loop) where
   on-side =
       let args = given .args in
       let corner = c .before .before .corner in
-      let face-by-number = c .before .before .before .before .before .before .face-by-number in
-      on-face (face-by-number .ensures) (omega (arith, round-below (at .loop .inv .4), length-faces (args .corners .now) (args .ends .now)))
-      (at .loop .inv .0) (omega arith) (corner .ensures .0) (c .before .next .ensures .0) (c .corner2 .ensures .0)
+      let record { before = _; face-by-number = face-by-number } : tie.After-face-by-number Inv-loop μ-loop = search in
+      on-face (face-by-number .ensures) (omega (arith, round-below (at .loop .inv .3), length-faces (args .corners .now) (args .ends .now)))
+      refl (omega arith) (corner .ensures .0) (c .before .next .ensures .0) (c .corner2 .ensures .0)
 
 cast-f : tie.Need-cast-f Inv-loop μ-loop
 cast-f c =
@@ -73,7 +73,7 @@ loop-holds : tie.Need-loop-holds Inv-loop μ-loop
 loop-holds c =
     let start : tie.Start Inv-loop μ-loop = search in
     let pre = start .pre in
-    (refl, omega arith, refl, refl, round-start (pre .1 .0) (pre .1 .1) refl refl)
+    (omega arith, refl, refl, round-start (pre .1 .0) (pre .1 .1) refl refl)
 
 neighbour-requires : tie.Need-neighbour-requires Inv-loop μ-loop
 neighbour-requires c κs =
@@ -87,26 +87,25 @@ meet-requires : tie.Need-meet-requires Inv-loop μ-loop
 meet-requires c κs =
     let neighbour = c .before .before .before .neighbour in
     let place = c .before .before .before .before in
-    meet-ready (given place .pre .0) (at place .loop .inv .4) (on-side place) (neighbour .ensures)
+    meet-ready (given place .pre .0) (at place .loop .inv .3) (on-side place) (neighbour .ensures)
 
 loop-again : tie.Need-loop-again Inv-loop μ-loop
 loop-again c =
     let meet = c .before .before .before .before .meet in
-    let runs-up = c .before .before .before .before .before .runs-up in
-    let neighbour = c .before .before .before .before .before .before .before .before .neighbour in
-    let place = c .before .before .before .before .before .before .before .before .before in (
-      refl,
+    let record { before = _; runs-up = runs-up } : tie.After-runs-up Inv-loop μ-loop = search in
+    let record { before = _; neighbour = neighbour } : tie.After-neighbour Inv-loop μ-loop = search in
+    let place : tie.After-corner2 Inv-loop μ-loop = search in (
       omega arith,
       omega arith,
       omega arith,
-      round-more (given place .pre .0) (at place .loop .inv .4) (on-side place)
+      round-more (given place .pre .0) (at place .loop .inv .3) (on-side place)
           (rw (← neighbour .ensures, ← runs-up .ensures) (meet .ensures)),
     )
 
 returns : tie.Need-returns Inv-loop μ-loop
 returns c =
     let face-by-number = c .before .before .before .face-by-number in
-    (round-end (c .before .loop .inv .4) (rw (← face-by-number .ensures) (omega arith)), refl)
+    (round-end (c .before .loop .inv .3) (rw (← face-by-number .ensures) (omega arith)), refl)
 
 pub ask-spec : {M : Type 1} → statement M
 ask-spec =

@@ -13,7 +13,7 @@ number-all-requires c κs =
 
 choose-256-requires : tie.Need-choose-256-requires
 choose-256-requires c κs =
-    let number-all = c .before .before .before .before .before .before .before .number-all in
+    let record { before = _; number-all = number-all } : tie.After-number-all = search in
     let start : tie.Start = search in
     let pre = start .pre in (
       (

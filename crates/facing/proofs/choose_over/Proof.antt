@@ -16,7 +16,7 @@ module _ (c : tie.Else1) where
   paired = c .before .before .before
 
   abbrev given : tie.Start
-  given = paired .before .before .before .before .before .before .before
+  given = search
 
   abbrev both : (unfit (facesOf (given .args .corners .now) (given .args .ends .now)) ≡ false) × (paired .pair-up .result ≡ true)
   both = passed _ _ (paired .pair-up .ensures .0) (c .if1 .left)
@@ -27,8 +27,8 @@ module _ (c : tie.Else1) where
       let pre = given .pre in
       grounded (pre .0 .0) (omega (arith, pre .1 .0)) (pre .0 .1) (both .0) (paired .pair-up .ensures .1 (both .1))
 
-returns : tie.Need-returns
-returns c =
+unfit-cell : tie.Need-returns
+unfit-cell c =
     let pair-up = c .before .before .before .pair-up in
     let start : tie.Start = search in
     let args = start .args in
@@ -45,15 +45,15 @@ clash-faces-requires c κs =
     let fit : tie.Else1 = search in
     (ground fit, omega (arith, given fit .pre .1 .3))
 
-returns-2 : tie.Need-returns-2
-returns-2 c =
-    let reach = c .before .before .before .before .before .before .reach in
+no-choice-closes : tie.Need-returns-2
+no-choice-closes c =
+    let record { before = _; reach = reach } : tie.After-reach = search in
     let fit : tie.Else1 = search in
     chosen-none (ground fit) (reach .ensures) (both fit .0) (c .before .clash-faces .ensures) (c .if2 .taken)
 
-returns-3 : tie.Need-returns-3
-returns-3 c =
-    let reach = c .before .before .before .before .before .before .reach in
+choice-made : tie.Need-returns-3
+choice-made c =
+    let record { before = _; reach = reach } : tie.After-reach = search in
     let fit : tie.Else1 = search in
     chosen-made (ground fit) (reach .ensures) (both fit .0) (c .before .clash-faces .ensures) (c .if2 .left)
 
@@ -62,10 +62,10 @@ choose-over-spec =
     tie.close
     (tie.spec
     (λ c κs. search needs) (λ c. search needs)
-    returns
+    unfit-cell
     reach-requires
     clash-faces-requires
     (λ c. search needs) (λ c. search needs)
-    returns-2
+    no-choice-closes
     (λ c. search needs) (λ c. search needs)
-    returns-3)
+    choice-made)

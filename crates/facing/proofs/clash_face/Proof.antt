@@ -1,5 +1,5 @@
 -- `facing::clash_face` meets its contract: whether a side clashes is asked of those from place i on, since none before did.
-use mathlib.Core.Path.{_≡_, refl, ap}
+use mathlib.Core.Path.{refl, ap}
 use Prim.Native.Nat.{ℕ, _-_, _<_}
 use mathlib.Core.List.{List, []}
 use native.Mathlib.Omega.{arith}
@@ -18,7 +18,6 @@ use Rattle.facing.proofs.clash_face.Tie as tie
 
 abbrev Inv-loop : tie.InvT-loop
 Inv-loop table number k code corners ends f face n i₀ i =
-    (n ≡ length face) ×
     Asking (clash (entryOf number k) table code) (sides (getD (facesOf corners ends) f []))
     (clashFace (entryOf number k) table code (getD (facesOf corners ends) f [])) i
 
@@ -31,7 +30,7 @@ module _ (c : tie.After-corner2 Inv-loop μ-loop) where
   at = c .before .before .before .before
 
   abbrev given : tie.Start Inv-loop μ-loop
-  given = at .before .before .before .before .before .before .before
+  given = search
 
   abbrev face : List ℕ
   face = getD (facesOf (given .args .corners .now) (given .args .ends .now)) (given .args .f) []
@@ -40,8 +39,8 @@ module _ (c : tie.After-corner2 Inv-loop μ-loop) where
       (c .corner2 .result)
   on-side =
       let corner = c .before .before .corner in
-      let face-by-number = c .before .before .before .before .before .face-by-number in
-      on-face (face-by-number .ensures) (given .pre .1 .1) (at .loop .inv .0) (omega arith) (corner .ensures .0)
+      let record { before = _; face-by-number = face-by-number } : tie.After-face-by-number Inv-loop μ-loop = search in
+      on-face (face-by-number .ensures) (given .pre .1 .1) refl (omega arith) (corner .ensures .0)
       (c .before .next .ensures .0) (c .corner2 .ensures .0)
 
   within : at .loop .i < length (sides face)
@@ -49,7 +48,7 @@ module _ (c : tie.After-corner2 Inv-loop μ-loop) where
 
 loop-holds : tie.Need-loop-holds Inv-loop μ-loop
 unfolding clashFace
-loop-holds c = (refl, ask-start refl)
+loop-holds c = ask-start refl
 
 clash-side-requires : tie.Need-clash-side-requires Inv-loop μ-loop
 clash-side-requires c κs =
@@ -60,26 +59,24 @@ clash-side-requires c κs =
       (ground .wide, rw (pre .1 .0) (here-marked ground side)),
     )
 
-returns : tie.Need-returns Inv-loop μ-loop
-returns c =
+one-clashes : tie.Need-returns Inv-loop μ-loop
+one-clashes c =
     let place = c .before .before in
-    ask-yes (0, 0) (at place .loop .inv .1) (within place)
+    ask-yes (0, 0) (at place .loop .inv) (within place)
     (rw (here (given place .pre .0) (on-side place), ← c .before .clash-side .ensures) (c .if1 .taken))
 
 loop-again : tie.Need-loop-again Inv-loop μ-loop
 loop-again c =
-    let place = c .before .before in (
-      refl,
-      ask-no (0, 0) (at place .loop .inv .1) (within place)
-          (rw (here (given place .pre .0) (on-side place), ← c .before .clash-side .ensures) (c .if1 .left)),
-    )
+    let place = c .before .before in
+    ask-no (0, 0) (at place .loop .inv) (within place)
+    (rw (here (given place .pre .0) (on-side place), ← c .before .clash-side .ensures) (c .if1 .left))
 
-returns-2 : tie.Need-returns-2 Inv-loop μ-loop
-returns-2 c =
+none-clashes : tie.Need-returns-2 Inv-loop μ-loop
+none-clashes c =
     let face-by-number = c .before .before .face-by-number in
     let start : tie.Start Inv-loop μ-loop = search in
     let args = start .args in
-    ask-end (c .before .loop .inv .1)
+    ask-end (c .before .loop .inv)
     (omega (
       arith,
       length-sides (getD (facesOf (args .corners .now) (args .ends .now)) (args .f) []),
@@ -96,7 +93,7 @@ clash-face-spec =
     loop-holds
     (λ c κs. search needs) (λ c κs. search needs) (λ c κs. search needs)
     clash-side-requires
-    returns
+    one-clashes
     (λ c. search needs) (λ c. search needs)
     loop-again
-    returns-2)
+    none-clashes)

@@ -1,10 +1,9 @@
 -- `facing::clash_faces` meets its contract: whether a face has a side that clashes is asked of those from f on, since none before had.
 use borrow.Author.Needs.{needs}
-use mathlib.Core.Path.{_≡_, refl}
+use mathlib.Core.Path.{refl}
 use mathlib.Core.List.{[]}
 use Prim.Native.Nat.{_-_}
 use native.Mathlib.Omega.{arith}
-use lib.ListN.{length}
 use Rattle.places.proofs.Loops.{Asking, ask-start, ask-yes, ask-no, ask-end}
 use Rattle.cell.specs.Faces.{facesOf}
 use Rattle.cell.proofs.Faces.{length-faces}
@@ -15,7 +14,6 @@ use Rattle.facing.proofs.clash_faces.Tie as tie
 
 abbrev Inv-loop : tie.InvT-loop
 Inv-loop table number k code corners ends n f₀ f =
-    (n ≡ length ends) ×
     Asking (clashFace (entryOf number k) table code) (facesOf corners ends)
     (clashFaces (entryOf number k) table code (facesOf corners ends)) f
 
@@ -24,31 +22,29 @@ abbrev μ-loop : tie.MeasureT-loop
 
 loop-holds : tie.Need-loop-holds Inv-loop μ-loop
 unfolding clashFaces
-loop-holds c = (refl, ask-start refl)
+loop-holds c = ask-start refl
 
-returns : tie.Need-returns Inv-loop μ-loop
-returns c =
+one-clashes : tie.Need-returns Inv-loop μ-loop
+one-clashes c =
     let loop = c .before .before .before .loop in
     let start : tie.Start Inv-loop μ-loop = search in
     let args = start .args in
-    ask-yes [] (loop .inv .1) (omega (arith, length-faces (args .corners .now) (args .ends .now)))
+    ask-yes [] (loop .inv) (omega (arith, length-faces (args .corners .now) (args .ends .now)))
     (rw (← c .before .clash-face .ensures) (c .if1 .taken))
 
 loop-again : tie.Need-loop-again Inv-loop μ-loop
 loop-again c =
     let loop = c .before .before .before .loop in
     let start : tie.Start Inv-loop μ-loop = search in
-    let args = start .args in (
-      refl,
-      ask-no [] (loop .inv .1) (omega (arith, length-faces (args .corners .now) (args .ends .now)))
-          (rw (← c .before .clash-face .ensures) (c .if1 .left)),
-    )
+    let args = start .args in
+    ask-no [] (loop .inv) (omega (arith, length-faces (args .corners .now) (args .ends .now)))
+    (rw (← c .before .clash-face .ensures) (c .if1 .left))
 
-returns-2 : tie.Need-returns-2 Inv-loop μ-loop
-returns-2 c =
+none-clashes : tie.Need-returns-2 Inv-loop μ-loop
+none-clashes c =
     let start : tie.Start Inv-loop μ-loop = search in
     let args = start .args in
-    ask-end (c .before .loop .inv .1) (omega (arith, length-faces (args .corners .now) (args .ends .now)))
+    ask-end (c .before .loop .inv) (omega (arith, length-faces (args .corners .now) (args .ends .now)))
 
 pub clash-faces-spec : {M : Type 1} → statement M
 clash-faces-spec =
@@ -58,7 +54,7 @@ clash-faces-spec =
     μ-loop
     loop-holds
     (λ c κs. search needs)
-    returns
+    one-clashes
     (λ c. search needs) (λ c. search needs)
     loop-again
-    returns-2)
+    none-clashes)

@@ -5,9 +5,9 @@ use borrow.Author.Needs.{needs}
 use Rattle.facing.proofs.clash_side.Statement.{statement}
 use Rattle.facing.proofs.clash_side.Tie as tie
 
-returns : tie.Need-returns
+no-side : tie.Need-returns
 unfolding clash
-returns c =
+no-side c =
     let args = c .before .before .before .before .args in
     rw (eq-eqb (args .a) (args .b) (c .if1 .taken))
 
@@ -22,9 +22,9 @@ mark-runs-up-requires-2 c κs =
     let start : tie.Start = search in
     rw (c .second-mark .ensures) (start .pre .1 .1 .second (if1 .left))
 
-returns-2 : tie.Need-returns-2
+both-compared : tie.Need-returns-2
 unfolding clash
-returns-2 c =
+both-compared c =
     let mark-runs-up = c .before .before .mark-runs-up in
     let first-mark = c .before .before .before .first-mark in
     let if1 = c .before .before .before .before .if1 in
@@ -42,9 +42,9 @@ pub clash-side-spec : {M : Type 1} → statement M
 clash-side-spec =
     tie.close
     (tie.spec
-    returns
+    no-side
     (λ c κs. search needs)
     mark-runs-up-requires
     (λ c κs. search needs)
     mark-runs-up-requires-2
-    returns-2)
+    both-compared)

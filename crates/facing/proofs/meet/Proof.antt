@@ -6,16 +6,16 @@ use borrow.Author.Needs.{needs}
 use Rattle.facing.proofs.meet.Statement.{statement}
 use Rattle.facing.proofs.meet.Tie as tie
 
-returns : tie.Need-returns
-returns c = as-was (λ h. absurd (omega (arith, c .if1 .taken))) refl refl refl
+no-neighbour : tie.Need-returns
+no-neighbour c = as-was (λ h. absurd (omega (arith, c .if1 .taken))) refl refl refl
 
 slice-read-if2 : tie.Need-slice-read-if2
 slice-read-if2 c =
     let start : tie.Start = search in
     rw (c .before .face-of .ensures) (start .pre .0 .0 (omega arith))
 
-returns-2 : tie.Need-returns-2
-returns-2 c =
+reached-before : tie.Need-returns-2
+reached-before c =
     let face-of = c .before .before .face-of in
     as-was (λ h. rw (← face-of .ensures) (omega arith)) refl refl refl
 
@@ -37,8 +37,8 @@ slice-write-list c =
 add-result : tie.Need-add-result
 add-result c = omega (arith, slice-write-list c)
 
-returns-3 : tie.Need-returns-3
-returns-3 c =
+reached-now : tie.Need-returns-3
+reached-now c =
     let face-of = c .before .before .before .face-of in
     now-reached (omega arith) (rw (← face-of .ensures) (omega arith)) (rw (← face-of .ensures, c .against .ensures))
     (rw (← face-of .ensures)) refl
@@ -47,14 +47,14 @@ pub meet-spec : {M : Type 1} → statement M
 meet-spec =
     tie.close
     (tie.spec
-    returns
+    no-neighbour
     (λ c κs. search needs)
     slice-read-if2
-    returns-2
+    reached-before
     (λ c κs. search needs)
     slice-write-code
     cast-list
     slice-write-list
     add-result
     (λ c. search needs) (λ c. search needs)
-    returns-3)
+    reached-now)

@@ -5,9 +5,9 @@ use borrow.Author.Needs.{needs}
 use Rattle.facing.proofs.neighbour.Statement.{statement}
 use Rattle.facing.proofs.neighbour.Tie as tie
 
-returns : tie.Need-returns
+no-side : tie.Need-returns
 unfolding neighbourOf
-returns c =
+no-side c =
     let args = c .before .before .before .args in
     rw (eq-eqb (args .a) (args .b) (c .if1 .taken))
 
@@ -16,9 +16,9 @@ face-of-requires c κs =
     let pre = c .before .before .before .before .pre in
     rw (c .first-mark .ensures) (pre .1 .1 (c .before .if1 .left))
 
-returns-2 : tie.Need-returns-2
+first-is-other : tie.Need-returns-2
 unfolding neighbourOf
-returns-2 c =
+first-is-other c =
     let first-mark = c .before .before .first-mark in
     let if1 = c .before .before .before .if1 in
     let start : tie.Start = search in
@@ -26,9 +26,9 @@ returns-2 c =
     rw
     (ne-eqb (args .a) (args .b) (if1 .left), ← first-mark .ensures, ← c .before .face-of .ensures, ne-eqb _ _ (c .if2 .taken))
 
-returns-3 : tie.Need-returns-3
+second-is-other : tie.Need-returns-3
 unfolding neighbourOf
-returns-3 c =
+second-is-other c =
     let face-of = c .before .before .face-of in
     let first-mark = c .before .before .before .first-mark in
     let if1 = c .before .before .before .before .if1 in
@@ -41,9 +41,9 @@ pub neighbour-spec : {M : Type 1} → statement M
 neighbour-spec =
     tie.close
     (tie.spec
-    returns
+    no-side
     (λ c κs. search needs)
     face-of-requires
-    returns-2
+    first-is-other
     (λ c κs. search needs)
-    returns-3)
+    second-is-other)

@@ -1,15 +1,14 @@
 -- `facing::next_unreached` meets its contract: all faces before f are reached, so the first without a code is the first of all.
 use borrow.Author.Needs.{needs}
 use Rattle.facing.proofs.Spread.{reached-next}
-use mathlib.Core.Path.{_≡_}
 use Prim.Native.Nat.{ℕ, _-_, _<_, _≤_}
-use lib.ListN.{length, getD}
+use lib.ListN.{getD}
 use native.Mathlib.Omega.{arith}
 use Rattle.facing.proofs.next_unreached.Statement.{statement}
 use Rattle.facing.proofs.next_unreached.Tie as tie
 
 abbrev Inv-loop : tie.InvT-loop
-Inv-loop code from n f₀ f = (n ≡ length code) × (f ≤ n) × ((m : ℕ) → m < f → 0 < getD code m 0)
+Inv-loop code from n f₀ f = (f ≤ n) × ((m : ℕ) → m < f → 0 < getD code m 0)
 
 abbrev μ-loop : tie.MeasureT-loop
 μ-loop code from n f₀ f = n - f
@@ -18,9 +17,8 @@ loop-again : tie.Need-loop-again Inv-loop μ-loop
 loop-again c =
     let loop = c .before .before .before .loop in
     let args = c .before .before .before .before .args in (
-      loop .inv .0,
       omega arith,
-      λ m h. reached-next (args .code .now) (loop .f) (loop .inv .2) (omega (arith, c .if1 .left)) m h,
+      λ m h. reached-next (args .code .now) (loop .f) (loop .inv .1) (omega (arith, c .if1 .left)) m h,
     )
 
 pub next-unreached-spec : {M : Type 1} → statement M

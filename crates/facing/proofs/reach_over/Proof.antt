@@ -13,7 +13,7 @@ use Rattle.facing.proofs.reach_over.Tie as tie
 
 abbrev Inv-loop : tie.InvT-loop
 Inv-loop table number k corners ends code₀ list₀ n at₀ code list at =
-    (n ≡ length ends) × (length code ≡ length code₀) × (length list ≡ length list₀) ×
+    (length code ≡ length code₀) × (length list ≡ length list₀) ×
     Spread (facesOf corners ends) code list (at .low) (at .head) (at .tail)
 
 abbrev μ-loop : tie.MeasureT-loop
@@ -24,7 +24,6 @@ loop-holds c =
     let start : tie.Start Inv-loop μ-loop = search in
     let args = start .args in
     let pre = start .pre in (
-      refl,
       refl,
       refl,
       spread-start (facesOf (args .corners .now) (args .ends .now)) (args .code .now) (args .list .now)
@@ -38,7 +37,7 @@ returns c =
     let loop = c .before .before .loop in
     let start : tie.Start Inv-loop μ-loop = search in
     let args = start .args in
-    spread-whole (loop .inv .3) (omega (arith, length-faces (args .corners .now) (args .ends .now)))
+    spread-whole (loop .inv .2) (omega (arith, length-faces (args .corners .now) (args .ends .now)))
 
 pub reach-over-spec : {M : Type 1} → statement M
 reach-over-spec =

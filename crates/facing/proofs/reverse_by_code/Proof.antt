@@ -5,13 +5,13 @@ use borrow.Author.Needs.{needs}
 use Rattle.facing.proofs.reverse_by_code.Statement.{statement}
 use Rattle.facing.proofs.reverse_by_code.Tie as tie
 
-returns : tie.Need-returns
-returns c =
+stays : tie.Need-returns
+stays c =
     let args = c .before .before .args in
     rw (ne-eqb (args .w) 2 (c .if1 .taken)) (refl, refl)
 
-returns-2 : tie.Need-returns-2
-returns-2 c =
+reversed : tie.Need-returns-2
+reversed c =
     let reverse-corners = c .before .before .reverse-corners in
     let if1 = c .before .before .before .before .if1 in
     let start : tie.Start = search in
@@ -21,6 +21,6 @@ pub reverse-by-code-spec : {M : Type 1} → statement M
 reverse-by-code-spec =
     tie.close
     (tie.spec
-    returns
+    stays
     (λ c κs. search needs) (λ c. search needs)
-    returns-2)
+    reversed)

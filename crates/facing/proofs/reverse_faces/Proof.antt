@@ -1,5 +1,5 @@
 -- `facing::reverse_faces` meets its contract: what is done before face f, and the rest turned by its codes, make the whole turned list.
-use mathlib.Core.Path.{_≡_, refl}
+use mathlib.Core.Path.{refl}
 use Prim.Native.Nat.{_-_}
 use native.Mathlib.Omega.{arith}
 use borrow.Author.Needs.{needs}
@@ -17,7 +17,6 @@ use Rattle.facing.proofs.reverse_faces.Tie as tie
 
 abbrev Inv-loop : tie.InvT-loop
 Inv-loop corners₀ ends code n count₀ start₀ f₀ corners count start f =
-    (n ≡ length ends) ×
     Reversing corners₀ ends code (joined (reversedBy (codeChoice code) (facesOf corners₀ ends)))
     (howMany (codeChoice code) (length ends)) start f count corners
 
@@ -33,12 +32,12 @@ module _ (c : tie.After-shared-slice-known3 Inv-loop μ-loop) where
   given = at .before .before .before .before
 
   stretch : Step (at .loop .start) (given .args .ends .now) (length (given .args .corners .now)) (at .loop .f) (c .before .corner .result)
-  stretch = reverse-step (at .loop .inv .1) (omega arith) (c .before .corner .ensures .0)
+  stretch = reverse-step (at .loop .inv) (omega arith) (c .before .corner .ensures .0)
 
 loop-holds : tie.Need-loop-holds Inv-loop μ-loop
 loop-holds c =
     let pre = c .before .before .before .pre in
-    (refl, reverse-start (pre .0 .0))
+    reverse-start (pre .0 .0)
 
 mul-reverse-by-code : tie.Need-mul-reverse-by-code Inv-loop μ-loop
 mul-reverse-by-code c = omega (arith, stretch c .from, stretch c .upto, given c .pre .0 .1)
@@ -50,17 +49,17 @@ part-reverse-by-code-start : tie.Need-part-reverse-by-code-start Inv-loop μ-loo
 part-reverse-by-code-start c = stretch c .from
 
 part-reverse-by-code-end : tie.Need-part-reverse-by-code-end Inv-loop μ-loop
-part-reverse-by-code-end c = omega (arith, stretch c .upto, at c .loop .inv .1 .long)
+part-reverse-by-code-end c = omega (arith, stretch c .upto, at c .loop .inv .long)
 
 add-count : tie.Need-add-count Inv-loop μ-loop
 add-count c =
     let reverse-by-code = c .before .before .reverse-by-code in
-    let loop = c .before .before .before .before .before .before .before .loop in
+    let record { before = _; loop = loop } : tie.At-loop Inv-loop μ-loop = search in
     let start : tie.Start Inv-loop μ-loop = search in
     omega (
       arith,
-      loop .inv .1 .few,
-      loop .inv .1 .within,
+      loop .inv .few,
+      loop .inv .within,
       reverse-by-code .ensures .1,
       one-at-most (eqb (getD (start .args .code .now) (loop .f) 0) 2),
       start .pre .1 .1,
@@ -69,16 +68,14 @@ add-count c =
 loop-again : tie.Need-loop-again Inv-loop μ-loop
 loop-again c =
     let reverse-by-code = c .before .before .reverse-by-code in
-    let corner = c .before .before .before .before .before .corner in
-    let loop = c .before .before .before .before .before .before .before .loop in
-    let start : tie.Start Inv-loop μ-loop = search in (
-      refl,
-      reverse-next (loop .inv .1) (omega arith) (corner .ensures .0) (start .pre .1 .0) refl (reverse-by-code .ensures .0)
-          (omega (arith, reverse-by-code .ensures .1)),
-    )
+    let record { before = _; corner = corner } : tie.After-corner Inv-loop μ-loop = search in
+    let record { before = _; loop = loop } : tie.At-loop Inv-loop μ-loop = search in
+    let start : tie.Start Inv-loop μ-loop = search in
+    reverse-next (loop .inv) (omega arith) (corner .ensures .0) (start .pre .1 .0) refl (reverse-by-code .ensures .0)
+    (omega (arith, reverse-by-code .ensures .1))
 
 returns : tie.Need-returns Inv-loop μ-loop
-returns c = reverse-end (c .before .loop .inv .1) (omega arith)
+returns c = reverse-end (c .before .loop .inv) (omega arith)
 
 pub reverse-faces-spec : {M : Type 1} → statement M
 reverse-faces-spec =

@@ -26,8 +26,8 @@ cast-list c =
     let pre = start .pre in
     omega (arith, slice-write-code c, pre .spread .codes, pre .few)
 
-returns-2 : tie.Need-returns-2
-returns-2 c =
+lowest-begins : tie.Need-returns-2
+lowest-begins c =
     let unreached = c .next-unreached .ensures in
     let h = slice-write-code c in
     record {
@@ -45,4 +45,4 @@ seed-spec =
     slice-write-code
     cast-list
     (λ c. search needs) (λ c. search needs) (λ c. search needs) (λ c. search needs)
-    returns-2)
+    lowest-begins)

@@ -20,7 +20,7 @@ seed-requires c κs =
 
 ask-requires : tie.Need-ask-requires
 ask-requires c κs =
-    let seed = c .before .before .before .before .before .before .seed in
+    let record { before = _; seed = seed } : tie.After-seed = search in
     let start : tie.Start = search in
     let args = start .args in
     let pre = start .pre in (

@@ -2,6 +2,7 @@
 ghost use mathlib.Core.Path.{_≡_};
 ghost use Prim.Native.Nat.{_+_, _≤_, _<_};
 ghost use lib.ListN.{length};
+ghost use Rattle.places.specs.Lent.{old};
 ghost use Rattle.records.specs.Bytes.{wordOf, clearOf, recordOf};
 
 // A record: byte 0 is its kind, `clear` says that bytes 1 to 7 are zero, and then come three fields.
@@ -22,7 +23,7 @@ fn wide(x: u8) -> u64
 // The 8 bytes from `at` on, little-endian.
 fn word(s: &[u8], at: usize) -> u64
     requires { ⌜ at + 8 ≤ length (now s) ⌝ }
-    ensures { λ r. ⌜ r ≡ wordOf (now (s .entry)) at ⌝ }
+    ensures { λ r. ⌜ r ≡ wordOf (old s) at ⌝ }
 {
     wide(s[at])
         + 256 * wide(s[at + 1])
@@ -37,7 +38,7 @@ fn word(s: &[u8], at: usize) -> u64
 // The seven bytes after `at` are zero: the word there is its first byte.
 fn clear(s: &[u8], at: usize) -> bool
     requires { ⌜ at + 8 ≤ length (now s) ⌝ }
-    ensures { λ r. ⌜ r ≡ clearOf (now (s .entry)) at ⌝ }
+    ensures { λ r. ⌜ r ≡ clearOf (old s) at ⌝ }
 {
     word(s, at) == wide(s[at])
 }
@@ -45,7 +46,7 @@ fn clear(s: &[u8], at: usize) -> bool
 // The record whose 32 bytes begin at `at`.
 pub fn read_record(s: &[u8], at: usize) -> Rec
     requires { ⌜ at + 32 ≤ length (now s) ⌝ }
-    ensures { λ r. ⌜ r ≡ recordOf (now (s .entry)) at ⌝ }
+    ensures { λ r. ⌜ r ≡ recordOf (old s) at ⌝ }
 {
     Rec {
         kind: s[at],

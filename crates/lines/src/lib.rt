@@ -3,13 +3,14 @@ ghost use mathlib.Core.Path.{_≡_};
 ghost use mathlib.Core.List.{_∷_, [], _++_};
 ghost use Prim.Native.Nat.{_+_, _≤_, _<_};
 ghost use lib.ListN.{length};
+ghost use Rattle.places.specs.Lent.{old, new};
 ghost use Rattle.lines.specs.Text.{Put, decimalOf, digitOf, yesOrNo, hexOf};
 ghost use Rattle.lines.specs.Lines.{refusedLine, tailLine, countsText, shapeText, findingsText, cellLine};
 use geometry::Findings;
 
 fn put_byte(out: &mut [u8], at: usize, b: u8) -> usize
     requires { ⌜ at < length (now out) ⌝ }
-    ensures { λ r. ⌜ Put (now (out .entry)) at (b ∷ []) (now (out .exit)) r ⌝ }
+    ensures { λ r. ⌜ Put (old out) at (b ∷ []) (new out) r ⌝ }
 {
     out[at] = b;
     at + 1
@@ -17,7 +18,7 @@ fn put_byte(out: &mut [u8], at: usize, b: u8) -> usize
 
 fn put_text(out: &mut [u8], at: usize, text: &[u8]) -> usize
     requires { ⌜ at + length (now text) ≤ length (now out) ⌝ }
-    ensures { λ r. ⌜ Put (now (out .entry)) at (now (text .entry)) (now (out .exit)) r ⌝ }
+    ensures { λ r. ⌜ Put (old out) at (old text) (new out) r ⌝ }
 {
     let mut i = 0;
     while i < text.len() {
@@ -30,7 +31,7 @@ fn put_text(out: &mut [u8], at: usize, text: &[u8]) -> usize
 // Up to 20 digits.
 fn put_decimal(out: &mut [u8], at: usize, n: u64) -> usize
     requires { ⌜ at + 20 ≤ length (now out) ⌝ }
-    ensures { λ r. ⌜ Put (now (out .entry)) at (decimalOf n) (now (out .exit)) r ⌝ }
+    ensures { λ r. ⌜ Put (old out) at (decimalOf n) (new out) r ⌝ }
     ensures { λ r. ⌜ r ≤ at + 20 ⌝ }
 {
     if n < 10 {
@@ -50,7 +51,7 @@ fn digit(d: u64) -> u8
 // The last k digits of n in base 16.
 fn put_hex(out: &mut [u8], at: usize, n: u64, k: usize) -> usize
     requires { ⌜ at + k ≤ length (now out) ⌝ }
-    ensures { λ r. ⌜ Put (now (out .entry)) at (hexOf k n) (now (out .exit)) r ⌝ }
+    ensures { λ r. ⌜ Put (old out) at (hexOf k n) (new out) r ⌝ }
     ensures { λ r. ⌜ r ≡ at + k ⌝ }
 {
     if k == 0 {
@@ -63,8 +64,8 @@ fn put_hex(out: &mut [u8], at: usize, n: u64, k: usize) -> usize
 // A label and a number.
 fn put_field(out: &mut [u8], at: usize, label: &[u8], n: u64) -> usize
     requires { ⌜ at + length (now label) + 20 ≤ length (now out) ⌝ }
-    ensures { λ r. ⌜ Put (now (out .entry)) at (now (label .entry) ++ decimalOf n) (now (out .exit)) r ⌝ }
-    ensures { λ r. ⌜ r ≤ at + length (now (label .entry)) + 20 ⌝ }
+    ensures { λ r. ⌜ Put (old out) at (old label ++ decimalOf n) (new out) r ⌝ }
+    ensures { λ r. ⌜ r ≤ at + length (old label) + 20 ⌝ }
 {
     let p = put_text(out, at, label);
     put_decimal(out, p, n)
@@ -72,7 +73,7 @@ fn put_field(out: &mut [u8], at: usize, label: &[u8], n: u64) -> usize
 
 fn put_yes_or_no(out: &mut [u8], at: usize, yes: bool) -> usize
     requires { ⌜ at + 3 ≤ length (now out) ⌝ }
-    ensures { λ r. ⌜ Put (now (out .entry)) at (yesOrNo yes) (now (out .exit)) r ⌝ }
+    ensures { λ r. ⌜ Put (old out) at (yesOrNo yes) (new out) r ⌝ }
     ensures { λ r. ⌜ r ≤ at + 3 ⌝ }
 {
     if yes {
@@ -84,7 +85,7 @@ fn put_yes_or_no(out: &mut [u8], at: usize, yes: bool) -> usize
 // The line of a refused cell. No line is longer than 256 bytes.
 pub fn put_refused(out: &mut [u8], at: usize, number: u64, why: u8) -> usize
     requires { ⌜ at + 256 ≤ length (now out) ⌝ }
-    ensures { λ r. ⌜ Put (now (out .entry)) at (refusedLine number why) (now (out .exit)) r ⌝ }
+    ensures { λ r. ⌜ Put (old out) at (refusedLine number why) (new out) r ⌝ }
     ensures { λ r. ⌜ r ≤ at + 256 ⌝ }
 {
     let p1 = put_field(out, at, b"cell ", number);
@@ -95,7 +96,7 @@ pub fn put_refused(out: &mut [u8], at: usize, number: u64, why: u8) -> usize
 // The line of bytes after the last cell end.
 pub fn put_tail(out: &mut [u8], at: usize) -> usize
     requires { ⌜ at + 15 ≤ length (now out) ⌝ }
-    ensures { λ r. ⌜ Put (now (out .entry)) at tailLine (now (out .exit)) r ⌝ }
+    ensures { λ r. ⌜ Put (old out) at tailLine (new out) r ⌝ }
 {
     put_text(out, at, b"tail refused 8\n")
 }
@@ -109,7 +110,7 @@ fn put_counts(
     triangles: usize,
 ) -> usize
     requires { ⌜ at + 94 ≤ length (now out) ⌝ }
-    ensures { λ r. ⌜ Put (now (out .entry)) at (countsText number verts faces triangles) (now (out .exit)) r ⌝ }
+    ensures { λ r. ⌜ Put (old out) at (countsText number verts faces triangles) (new out) r ⌝ }
     ensures { λ r. ⌜ r ≤ at + 94 ⌝ }
 {
     let p1 = put_field(out, at, b"cell ", number);
@@ -120,7 +121,7 @@ fn put_counts(
 
 fn put_shape(out: &mut [u8], at: usize, closed: bool, short: usize) -> usize
     requires { ⌜ at + 38 ≤ length (now out) ⌝ }
-    ensures { λ r. ⌜ Put (now (out .entry)) at (shapeText closed short) (now (out .exit)) r ⌝ }
+    ensures { λ r. ⌜ Put (old out) at (shapeText closed short) (new out) r ⌝ }
     ensures { λ r. ⌜ r ≤ at + 38 ⌝ }
 {
     let p1 = put_text(out, at, b" closed ");
@@ -130,7 +131,7 @@ fn put_shape(out: &mut [u8], at: usize, closed: bool, short: usize) -> usize
 
 fn put_findings(out: &mut [u8], at: usize, volume: f64, contained: usize) -> usize
     requires { ⌜ at + 46 ≤ length (now out) ⌝ }
-    ensures { λ r. ⌜ Put (now (out .entry)) at (findingsText volume contained) (now (out .exit)) r ⌝ }
+    ensures { λ r. ⌜ Put (old out) at (findingsText volume contained) (new out) r ⌝ }
     ensures { λ r. ⌜ r ≤ at + 46 ⌝ }
 {
     let p1 = put_text(out, at, b" vol ");
@@ -149,7 +150,7 @@ pub fn put_cell(
     s: Findings,
 ) -> usize
     requires { ⌜ at + 256 ≤ length (now out) ⌝ }
-    ensures { λ r. ⌜ Put (now (out .entry)) at (cellLine number verts faces s) (now (out .exit)) r ⌝ }
+    ensures { λ r. ⌜ Put (old out) at (cellLine number verts faces s) (new out) r ⌝ }
     ensures { λ r. ⌜ r ≤ at + 256 ⌝ }
 {
     let p1 = put_counts(out, at, number, verts, faces, s.triangles);

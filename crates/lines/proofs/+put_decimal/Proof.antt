@@ -23,6 +23,12 @@ put-decimal-at t = and 1 put-decimal-kinds.ps (is 1 put-decimal-kinds.ps μ-put-
 abbrev put-decimal-below : ℕ → In 1 put-decimal-kinds.ps
 put-decimal-below t = and 1 put-decimal-kinds.ps (falls 1 put-decimal-kinds.ps _<_ μ-put-decimal t) put-decimal.Pre
 
+-- the call's start
+abbrev Begun : ℕ → Type 0
+Begun t =
+    put-decimal-lts.Start (put-byte-reads.Asked, put-byte-reads.Learnt, put-decimal-below t, put-decimal.Post)
+    (put-decimal-at t) put-decimal.Post
+
 pub +put-decimal-spec : {M : Type 1} → statement M
 +put-decimal-spec =
     close μ-put-decimal λ t.
@@ -33,13 +39,15 @@ pub +put-decimal-spec : {M : Type 1} → statement M
     (λ c κs. omega arith)
     (λ c. search needs)
     (λ c.
-    let n = c .before .before .before .before .before .before .args .n in
+    let start : Begun t = search in
+    let n = start .args .n in
     (rw (decimal-small n (omega arith)) (c .before .before .put-byte .ensures), omega arith))
     (λ c κs. omega arith)
     (λ c. omega arith)
     (λ c. omega arith)
     (λ c κs.
-    let n = c .before .before .before .before .before .before .before .args .n in
+    let start : Begun t = search in
+    let n = start .args .n in
     omega (arith, tenth-length n (omega arith)))
     (λ c. search needs)
     (λ c.

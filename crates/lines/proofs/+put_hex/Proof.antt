@@ -24,6 +24,13 @@ put-hex-at t = and 1 put-hex-kinds.ps (is 1 put-hex-kinds.ps μ-put-hex t) put-h
 abbrev put-hex-below : ℕ → In 1 put-hex-kinds.ps
 put-hex-below t = and 1 put-hex-kinds.ps (falls 1 put-hex-kinds.ps _<_ μ-put-hex t) put-hex.Pre
 
+-- where the digits of the sixteenth are put
+abbrev Rest : ℕ → Type 0
+Rest t =
+    put-hex-lts.After-put-hex
+    (put-hex-below t, put-hex.Post, digit-reads.Asked, digit-reads.Learnt, put-byte-reads.Asked, put-byte-reads.Learnt)
+    (put-hex-at t) put-hex.Post
+
 pub +put-hex-spec : {M : Type 1} → statement M
 +put-hex-spec =
     close μ-put-hex λ t.
@@ -41,7 +48,7 @@ pub +put-hex-spec : {M : Type 1} → statement M
     (λ c.
     let byte = c .before .before in
     let digit = byte .before .digit in
-    let rest = byte .before .before .before .before .before in
+    let rest : Rest t = search in
     let some = rest .before .before in
     let args = some .before .before .args in
     let last = same-byte (digit .ensures) (byte .put-byte .ensures) in

@@ -4,16 +4,16 @@ use borrow.Author.Needs.{needs}
 use Rattle.lines.proofs.digit.Statement.{statement}
 use Rattle.lines.proofs.digit.Tie as tie
 
-returns : tie.Need-returns
-returns c = simp (lt-ltb _ _ (c .if1 .taken))
+to-nine : tie.Need-returns
+to-nine c = simp (lt-ltb _ _ (c .if1 .taken))
 
-returns-2 : tie.Need-returns-2
-returns-2 c = simp (le-ltb _ _ (c .if1 .left))
+from-ten : tie.Need-returns-2
+from-ten c = simp (le-ltb _ _ (c .if1 .left))
 
 pub digit-spec : {M : Type 1} → statement M
 digit-spec =
     tie.close
     (tie.spec
     (λ c. search needs) (λ c. search needs) (λ c. search needs) (λ c. search needs)
-    returns
-    returns-2)
+    to-nine
+    from-ten)

@@ -4,14 +4,14 @@ use borrow.Author.Needs.{needs}
 use Rattle.lines.proofs.put_yes_or_no.Statement.{statement}
 use Rattle.lines.proofs.put_yes_or_no.Tie as tie
 
-returns : tie.Need-returns
-returns c =
+says-yes : tie.Need-returns
+says-yes c =
     let record { before = _; put-text = put-text } : tie.After-put-text = search in
     let record { before = _; if1 = if1 } : tie.Then1 = search in
     (rw (if1 .taken) (put-text .ensures), omega arith)
 
-returns-2 : tie.Need-returns-2
-returns-2 c =
+says-no : tie.Need-returns-2
+says-no c =
     let record { before = _; put-text2 = put-text2 } : tie.After-put-text2 = search in
     let record { before = _; if1 = if1 } : tie.Else1 = search in
     (rw (if1 .left) (put-text2 .ensures), omega arith)
@@ -21,6 +21,6 @@ put-yes-or-no-spec =
     tie.close
     (tie.spec
     (λ c. search needs) (λ c κs. search needs) (λ c. search needs)
-    returns
+    says-yes
     (λ c. search needs) (λ c κs. search needs) (λ c. search needs)
-    returns-2)
+    says-no)

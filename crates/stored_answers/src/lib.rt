@@ -7,6 +7,7 @@ mod text;
 ghost use Prim.Native.Nat.{_≤_, _<_};
 ghost use mathlib.Core.Path.{_≡_};
 ghost use lib.ListN.{length};
+ghost use Rattle.places.specs.Lent.{old};
 use question_lists::words;
 
 // How many questions a line asks, and how many of them are answered otherwise than stored.
@@ -18,14 +19,14 @@ pub struct Verdict {
 // Where the line that begins at `from` ends: at its line feed, or at the end of the text.
 pub fn line_end(s: &[u8], from: usize) -> usize
     requires { ⌜ from ≤ length (now s) ⌝ }
-    ensures { λ r. ⌜ (from ≤ r) × (r ≤ length (now (s .entry))) ⌝ }
+    ensures { λ r. ⌜ (from ≤ r) × (r ≤ length (old s)) ⌝ }
 {
     text::until(s, from, 10)
 }
 
 // Where the name at the head of a line ends: at its first space, or at the end of the line.
 pub fn name_end(s: &[u8]) -> usize
-    ensures { λ r. ⌜ r ≤ length (now (s .entry)) ⌝ }
+    ensures { λ r. ⌜ r ≤ length (old s) ⌝ }
 {
     text::until(s, 0, 32)
 }
@@ -80,7 +81,7 @@ fn agrees(coords: &[u64], corners: &[u64], ends: &[u64], q: &[u64]) -> bool {
 // Where the question that begins at `at` ends; one that is cut off ends with the line.
 fn question_end(ws: &[u64], at: usize) -> usize
     requires { ⌜ at < length (now ws) ⌝ }
-    ensures { λ r. ⌜ (at < r) × (r ≤ length (now (ws .entry))) ⌝ }
+    ensures { λ r. ⌜ (at < r) × (r ≤ length (old ws)) ⌝ }
 {
     let room = ws.len() - at - 1;
     let size = words::capped(ws, at, room);
@@ -96,7 +97,7 @@ fn smaller(a: usize, b: usize) -> usize
 
 // The numbers with these patterns, at the front of a list, and how many there was room for.
 fn put_numbers(ws: &[u64], out: &mut [f64]) -> usize
-    ensures { λ r. ⌜ r ≤ length (now (out .entry)) ⌝ }
+    ensures { λ r. ⌜ r ≤ length (old out) ⌝ }
 {
     let n = smaller(ws.len(), out.len());
     let mut i = 0;
@@ -109,7 +110,7 @@ fn put_numbers(ws: &[u64], out: &mut [f64]) -> usize
 
 // The words, cut to 32 bits, at the front of a list, and how many there was room for.
 fn put_corners(ws: &[u64], out: &mut [u32]) -> usize
-    ensures { λ r. ⌜ r ≤ length (now (out .entry)) ⌝ }
+    ensures { λ r. ⌜ r ≤ length (old out) ⌝ }
 {
     let n = smaller(ws.len(), out.len());
     let mut i = 0;

@@ -1,11 +1,12 @@
 // Reading the stored text.
 ghost use Prim.Native.Nat.{_+_, _≤_, _<_};
 ghost use lib.ListN.{length};
+ghost use Rattle.places.specs.Lent.{old};
 
 // The first place from `from` on that holds the byte, or the end.
 pub fn until(s: &[u8], from: usize, byte: u8) -> usize
     requires { ⌜ from ≤ length (now s) ⌝ }
-    ensures { λ r. ⌜ (from ≤ r) × (r ≤ length (now (s .entry))) ⌝ }
+    ensures { λ r. ⌜ (from ≤ r) × (r ≤ length (old s)) ⌝ }
 {
     let n = s.len();
     let mut i = from;
@@ -81,7 +82,7 @@ fn finished(r: Reading, room: usize) -> usize
 
 // Reads a line's words into a list of zeros, and returns how many; words past the list's end are left out.
 pub fn read(line: &[u8], out: &mut [u64]) -> usize
-    ensures { λ r. ⌜ r ≤ length (now (out .entry)) ⌝ }
+    ensures { λ r. ⌜ r ≤ length (old out) ⌝ }
 {
     let n = line.len();
     let m = out.len();

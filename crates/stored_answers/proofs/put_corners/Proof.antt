@@ -1,13 +1,13 @@
 -- `stored_answers::put_corners` meets its contract: n is at most the length of both lists, so each place below n is in both.
 use mathlib.Core.Path.{_≡_}
-use Prim.Native.Nat.{_-_, _≤_}
+use Prim.Native.Nat.{_-_}
 use lib.ListN.{length}
 use borrow.Author.Needs.{needs}
 use Rattle.stored_answers.proofs.put_corners.Statement.{statement}
 use Rattle.stored_answers.proofs.put_corners.Tie as tie
 
 abbrev Inv-loop : tie.InvT-loop
-Inv-loop ws out₀ n i₀ out i = (n ≤ length ws) × (n ≤ length out₀) × (length out ≡ length out₀)
+Inv-loop ws out₀ n i₀ out i = length out ≡ length out₀
 
 abbrev μ-loop : tie.MeasureT-loop
 μ-loop ws out₀ n i₀ out i = n - i

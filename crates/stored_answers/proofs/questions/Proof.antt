@@ -1,17 +1,15 @@
 -- `stored_answers::questions` meets its contract: each question takes a word or more, so there are no more questions than words, no more
 -- different ones than questions, and the loop comes to the end of the line.
-use mathlib.Core.Path.{_≡_}
 use mathlib.Core.Logic.{⊎-elim}
 use Prim.Native.Nat.{_-_, _≤_}
 use native.Mathlib.Omega.{arith}
-use lib.ListN.{length}
 use borrow.Author.Needs.{needs}
 use Rattle.stored_answers.proofs.questions.Statement.{statement}
 use Rattle.stored_answers.proofs.questions.Tie as tie
 
 abbrev Inv-loop : tie.InvT-loop
 Inv-loop coords corners ends ws n at₀ asked₀ different₀ at asked different =
-    (n ≡ length ws) × (at ≤ n) × (asked ≤ at) × (different ≤ asked)
+    (at ≤ n) × (asked ≤ at) × (different ≤ asked)
 
 abbrev μ-loop : tie.MeasureT-loop
 μ-loop coords corners ends ws n at₀ asked₀ different₀ at asked different = n - at

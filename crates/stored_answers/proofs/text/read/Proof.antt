@@ -9,7 +9,7 @@ use Rattle.stored_answers.proofs.text.read.Statement.{statement}
 use Rattle.stored_answers.proofs.text.read.Tie as tie
 
 abbrev Inv-loop : tie.InvT-loop
-Inv-loop line out₀ n m r₀ i₀ out r i = (n ≡ length line) × (m ≡ length out₀) × (length out ≡ length out₀) × (r .count ≤ m)
+Inv-loop line out₀ n m r₀ i₀ out r i = (length out ≡ length out₀) × (r .count ≤ m)
 
 abbrev μ-loop : tie.MeasureT-loop
 μ-loop line out₀ n m r₀ i₀ out r i = n - i
@@ -19,7 +19,7 @@ take-requires c κs =
     let record { before = _; if1 = if1 } : tie.Then1 Inv-loop μ-loop = search in
     let record { before = _; loop = loop } : tie.At-loop Inv-loop μ-loop = search in
     let start : tie.Start Inv-loop μ-loop = search in
-    omega (arith, ltb-true (loop .r .count) (length (start .args .out .now)) (if1 .taken), loop .inv .1, loop .inv .2)
+    omega (arith, ltb-true (loop .r .count) (length (start .args .out .now)) (if1 .taken), loop .inv .0)
 
 loop-again : tie.Need-loop-again Inv-loop μ-loop
 loop-again c =
@@ -27,8 +27,6 @@ loop-again c =
     let record { before = _; if1 = if1 } : tie.Then1 Inv-loop μ-loop = search in
     let record { before = _; loop = loop } : tie.At-loop Inv-loop μ-loop = search in
     let start : tie.Start Inv-loop μ-loop = search in (
-      loop .inv .0,
-      loop .inv .1,
       search needs,
       omega (arith, ltb-true (loop .r .count) (length (start .args .out .now)) (if1 .taken), take .ensures),
     )

@@ -3,21 +3,18 @@ use borrow.Author.Needs.{needs}
 use Rattle.answer_lists.proofs.put_described.Statement.{statement}
 use Rattle.answer_lists.proofs.put_described.Tie as tie
 
-returns : tie.Need-returns
-returns c =
+answered : tie.Need-returns
+answered c =
     let done : tie.After-put-cell = search in
     rw (done .before .before .before .a .given .1) (done .put-cell .ensures)
 
-returns-2 : tie.Need-returns-2
-returns-2 c = rw (c .before .a2 .given .1)
+refused : tie.Need-returns-2
+refused c = rw (c .before .a2 .given .1)
 
 pub put-described-spec : {M : Type 1} → statement M
 put-described-spec =
     tie.close
     (tie.spec
-    (λ c. search needs)
-    (λ c κs. search needs)
-    (λ c. search needs)
-    (λ c. search needs)
-    returns
-    returns-2)
+    (λ c. search needs) (λ c κs. search needs) (λ c. search needs) (λ c. search needs)
+    answered
+    refused)

@@ -3,25 +3,19 @@ use borrow.Author.Needs.{needs}
 use Rattle.answer_lists.proofs.put_face_plane.Statement.{statement}
 use Rattle.answer_lists.proofs.put_face_plane.Tie as tie
 
-returns : tie.Need-returns
-returns c =
-    let answer = c .before .before .before .before .before .before .before .before .enum-told .given .1 in
-    rw answer (c .before .before .put .ensures)
+answered : tie.Need-returns
+answered c =
+    let record { before = _; enum-told = enum-told } : tie.After-enum-told = search in
+    rw (enum-told .given .1) (c .before .before .put .ensures)
 
-returns-2 : tie.Need-returns-2
-returns-2 c = rw (c .before .answer .given .1)
+refused : tie.Need-returns-2
+refused c = rw (c .before .answer .given .1)
 
 pub put-face-plane-spec : {M : Type 1} → statement M
 put-face-plane-spec =
     tie.close
     (tie.spec
-    (λ c. search needs)
-    (λ c. search needs)
-    (λ c. search needs)
-    (λ c. search needs)
-    (λ c. search needs)
-    (λ c κs. search needs)
-    (λ c. search needs)
-    (λ c. search needs)
-    returns
-    returns-2)
+    (λ c. search needs) (λ c. search needs) (λ c. search needs) (λ c. search needs) (λ c. search needs) (λ c κs. search needs)
+    (λ c. search needs) (λ c. search needs)
+    answered
+    refused)

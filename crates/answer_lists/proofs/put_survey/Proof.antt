@@ -7,16 +7,16 @@ use borrow.Author.Needs.{needs}
 use Rattle.answer_lists.proofs.put_survey.Statement.{statement}
 use Rattle.answer_lists.proofs.put_survey.Tie as tie
 
-returns : tie.Need-returns
-returns c =
+no-room-for-volume : tie.Need-returns
+no-room-for-volume c =
     let start : tie.Start = search in
     let s = start .args .s in
     both-first (s .volume ∷ []) (s .triangles ∷ oneIf (s .closed) ∷ s .short ∷ s .contained ∷ []) (start .args .volume .now)
     (start .args .counts .now)
     (c .if1 .taken)
 
-returns-2 : tie.Need-returns-2
-returns-2 c =
+no-room-for-counts : tie.Need-returns-2
+no-room-for-counts c =
     let start : tie.Start = search in
     let done : tie.After-put-counts = search in
     let one = done .before .before .before .one-if .ensures .0 in
@@ -26,8 +26,8 @@ returns-2 c =
     (start .args .counts .now)
     (omega (arith, room)) (rw one at (done .put-counts .ensures)) (c .if2 .taken)
 
-returns-3 : tie.Need-returns-3
-returns-3 c =
+both-written : tie.Need-returns-3
+both-written c =
     let start : tie.Start = search in
     let done : tie.After-put-counts = search in
     let one = done .before .before .before .one-if .ensures .0 in
@@ -43,13 +43,8 @@ pub put-survey-spec : {M : Type 1} → statement M
 put-survey-spec =
     tie.close
     (tie.spec
-    returns
-    (λ c κs. search needs)
-    (λ c. search needs)
-    (λ c κs. search needs)
-    (λ c. search needs)
-    returns-2
-    (λ c. search needs)
-    (λ c. search needs)
-    (λ c. search needs)
-    returns-3)
+    no-room-for-volume
+    (λ c κs. search needs) (λ c. search needs) (λ c κs. search needs) (λ c. search needs)
+    no-room-for-counts
+    (λ c. search needs) (λ c. search needs) (λ c. search needs)
+    both-written)

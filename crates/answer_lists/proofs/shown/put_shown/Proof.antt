@@ -5,8 +5,8 @@ use borrow.Author.Needs.{needs}
 use Rattle.answer_lists.proofs.shown.put_shown.Statement.{statement}
 use Rattle.answer_lists.proofs.shown.put_shown.Tie as tie
 
-returns : tie.Need-returns
-returns c =
+cleared-away : tie.Need-returns
+cleared-away c =
     let start : tie.Start = search in
     let args = start .args in
     let done : tie.After-unshown = search in
@@ -14,8 +14,8 @@ returns c =
     let at : tie.Then1 = search in
     shown-short (args .a) (args .out .now) (args .first .now) (args .second .now) (at .if1 .taken) (made .0) (made .1 .0) (made .1 .1)
 
-returns-2 : tie.Need-returns-2
-returns-2 c =
+told : tie.Need-returns-2
+told c =
     let start : tie.Start = search in
     let args = start .args in
     let done : tie.After-put-clipped = search in
@@ -26,10 +26,7 @@ pub put-shown-spec : {M : Type 1} → statement M
 put-shown-spec =
     tie.close
     (tie.spec
-    (λ c κs. search needs)
-    (λ c. search needs)
-    (λ c. search needs)
-    returns
-    (λ c κs. search needs)
-    (λ c. search needs)
-    returns-2)
+    (λ c κs. search needs) (λ c. search needs) (λ c. search needs)
+    cleared-away
+    (λ c κs. search needs) (λ c. search needs)
+    told)

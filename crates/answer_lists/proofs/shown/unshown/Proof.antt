@@ -5,19 +5,19 @@ use borrow.Author.Needs.{needs}
 use Rattle.answer_lists.proofs.shown.unshown.Statement.{statement}
 use Rattle.answer_lists.proofs.shown.unshown.Tie as tie
 
-returns : tie.Need-returns
-returns c =
+nothing-left : tie.Need-returns
+nothing-left c =
     let answer = c .enum-told .given .1 in
     (rw answer, (rw answer, rw answer))
 
-returns-2 : tie.Need-returns-2
-returns-2 c =
+outline-left : tie.Need-returns-2
+outline-left c =
     let cleared : tie.After-settle = search in
     let answer = cleared .before .before .before .enum-told2 .given .1 in
     (rw answer, (rw answer (cleared .settle .ensures .0 ∙ rw sub-zero), rw answer (cleared .settle .ensures .1 ∙ rw sub-zero)))
 
-returns-3 : tie.Need-returns-3
-returns-3 c =
+refused : tie.Need-returns-3
+refused c =
     let answer = c .before .a .given .1 in
     (rw answer, (rw answer, rw answer))
 
@@ -25,12 +25,8 @@ pub unshown-spec : {M : Type 1} → statement M
 unshown-spec =
     tie.close
     (tie.spec
-    (λ c. search needs)
-    (λ c. search needs)
-    (λ c κs. search needs)
-    (λ c. search needs)
-    returns
-    (λ c. search needs)
-    (λ c. search needs)
-    returns-2
-    returns-3)
+    (λ c. search needs) (λ c. search needs) (λ c κs. search needs) (λ c. search needs)
+    nothing-left
+    (λ c. search needs) (λ c. search needs)
+    outline-left
+    refused)

@@ -6,15 +6,15 @@ use borrow.Author.Needs.{needs}
 use Rattle.geometry.proofs.bounds.Statement.{statement}
 use Rattle.geometry.proofs.bounds.Tie as tie
 
-returns : tie.Need-returns
+is-refused : tie.Need-returns
 unfolding boundsAnswer
-returns c = refused (c .before .cell-refusal .ensures) Extent.Refused _ (c .if1 .taken)
+is-refused c = refused (c .before .cell-refusal .ensures) Extent.Refused _ (c .if1 .taken)
 
-returns-2 : tie.Need-returns-2
+is-answered : tie.Need-returns-2
 unfolding boundsAnswer
-returns-2 c =
-    let if1 = c .before .before .before .before .before .if1 in
-    let cell-refusal = c .before .before .before .before .before .before .cell-refusal in
+is-answered c =
+    let record { before = _; if1 = if1 } : tie.Else1 = search in
+    let record { before = _; cell-refusal = cell-refusal } : tie.After-cell-refusal = search in
     passed (cell-refusal .ensures) _ (if1 .left) (cc)
 
 pub bounds-spec : {M : Type 1} → statement M
@@ -23,6 +23,6 @@ bounds-spec =
     tie.close
     (tie.spec
     (λ c κs. search needs)
-    returns
+    is-refused
     (λ c κs. search needs) (λ c. search needs) (λ c. search needs) (λ c κs. search needs) (λ c κs. search needs)
-    returns-2)
+    is-answered)

@@ -7,18 +7,18 @@ use borrow.Author.Needs.{needs}
 use Rattle.geometry.proofs.can_turn.Statement.{statement}
 use Rattle.geometry.proofs.can_turn.Tie as tie
 
-returns : tie.Need-returns
+is-refused : tie.Need-returns
 unfolding canTurnAnswer
-returns c = refused (c .before .turn-faces-refusal .ensures) Done.Refused _ (c .if1 .taken)
+is-refused c = refused (c .before .turn-faces-refusal .ensures) Done.Refused _ (c .if1 .taken)
 
-returns-2 : tie.Need-returns-2
+is-answered : tie.Need-returns-2
 unfolding canTurnAnswer
-returns-2 c = passed (c .before .turn-faces-refusal .ensures) _ (c .if1 .left) refl
+is-answered c = passed (c .before .turn-faces-refusal .ensures) _ (c .if1 .left) refl
 
 pub can-turn-spec : {M : Type 1} → statement M
 can-turn-spec =
     tie.close
     (tie.spec
     (λ c κs. search needs)
-    returns
-    returns-2)
+    is-refused
+    is-answered)

@@ -11,9 +11,9 @@ use borrow.Author.Needs.{needs}
 use Rattle.geometry.proofs.centroid.Statement.{statement}
 use Rattle.geometry.proofs.centroid.Tie as tie
 
-returns : tie.Need-returns
+is-refused : tie.Need-returns
 unfolding centroidAnswer
-returns c = refused (c .before .cell-refusal .ensures) Place.Refused _ (c .if1 .taken)
+is-refused c = refused (c .before .cell-refusal .ensures) Place.Refused _ (c .if1 .taken)
 
 vertex-centroid-requires : tie.Need-vertex-centroid-requires
 vertex-centroid-requires c κs =
@@ -23,9 +23,9 @@ vertex-centroid-requires c κs =
     (sym (c .before .cell-refusal .ensures) ∙ c .if1 .left) in
     omega (arith, length-threes (args .coords .now), s .threes, s .few)
 
-returns-2 : tie.Need-returns-2
+is-answered : tie.Need-returns-2
 unfolding centroidAnswer
-returns-2 c =
+is-answered c =
     let if1 = c .before .before .if1 in
     let cell-refusal = c .before .before .before .cell-refusal in
     passed (cell-refusal .ensures) _ (if1 .left) (cc)
@@ -36,7 +36,7 @@ centroid-spec =
     tie.close
     (tie.spec
     (λ c κs. search needs)
-    returns
+    is-refused
     vertex-centroid-requires
     (λ c κs. search needs)
-    returns-2)
+    is-answered)

@@ -10,9 +10,9 @@ use borrow.Author.Needs.{needs}
 use Rattle.geometry.proofs.closed.Statement.{statement}
 use Rattle.geometry.proofs.closed.Tie as tie
 
-returns : tie.Need-returns
+is-refused : tie.Need-returns
 unfolding closedAnswer
-returns c = refused (c .before .cell-refusal .ensures) Truth.Refused _ (c .if1 .taken)
+is-refused c = refused (c .before .cell-refusal .ensures) Truth.Refused _ (c .if1 .taken)
 
 closed-requires : tie.Need-closed-requires
 closed-requires c κs =
@@ -22,9 +22,9 @@ closed-requires c κs =
     (sym (c .before .cell-refusal .ensures) ∙ c .if1 .left) in
     rw (← length-threes (args .coords .now)) ((s .inside, s .few), (s .few-corners, s .ordered))
 
-returns-2 : tie.Need-returns-2
+is-answered : tie.Need-returns-2
 unfolding closedAnswer
-returns-2 c =
+is-answered c =
     let cell-refusal = c .before .before .cell-refusal in
     passed (cell-refusal .ensures) _ (c .before .if1 .left) (cc)
 
@@ -34,6 +34,6 @@ closed-spec =
     tie.close
     (tie.spec
     (λ c κs. search needs)
-    returns
+    is-refused
     closed-requires
-    returns-2)
+    is-answered)

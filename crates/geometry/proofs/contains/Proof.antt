@@ -9,9 +9,9 @@ use borrow.Author.Needs.{needs}
 use Rattle.geometry.proofs.contains.Statement.{statement}
 use Rattle.geometry.proofs.contains.Tie as tie
 
-returns : tie.Need-returns
+is-refused : tie.Need-returns
 unfolding containsAnswer
-returns c = refused (c .before .contains-refusal .ensures) Truth.Refused _ (c .if1 .taken)
+is-refused c = refused (c .before .contains-refusal .ensures) Truth.Refused _ (c .if1 .taken)
 
 contains-requires : tie.Need-contains-requires
 contains-requires c κs =
@@ -20,15 +20,15 @@ contains-requires c κs =
     sound (args .coords .now) (args .corners .now) (args .ends .now) (args .p) [] (sym
     (c .before .contains-refusal .ensures) ∙ c .if1 .left)
 
-returns-2 : tie.Need-returns-2
+is-answered : tie.Need-returns-2
 unfolding containsAnswer
-returns-2 c = passed (c .before .before .contains-refusal .ensures) _ (c .before .if1 .left) cc
+is-answered c = passed (c .before .before .contains-refusal .ensures) _ (c .before .if1 .left) cc
 
 pub contains-spec : {M : Type 1} → statement M
 contains-spec =
     tie.close
     (tie.spec
     (λ c κs. search needs)
-    returns
+    is-refused
     contains-requires
-    returns-2)
+    is-answered)

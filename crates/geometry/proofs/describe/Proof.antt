@@ -6,13 +6,13 @@ use borrow.Author.Needs.{needs}
 use Rattle.geometry.proofs.describe.Statement.{statement}
 use Rattle.geometry.proofs.describe.Tie as tie
 
-returns : tie.Need-returns
+is-refused : tie.Need-returns
 unfolding describeAnswer
-returns c = refused (c .before .cell-refusal .ensures) Described.Refused _ (c .if1 .taken)
+is-refused c = refused (c .before .cell-refusal .ensures) Described.Refused _ (c .if1 .taken)
 
-returns-2 : tie.Need-returns-2
+is-answered : tie.Need-returns-2
 unfolding describeAnswer
-returns-2 c =
+is-answered c =
     let at : tie.Else1 = search in
     let made : tie.After-description = search in
     passed (at .before .cell-refusal .ensures) _ (at .if1 .left) (rw (made .description .ensures))
@@ -22,6 +22,6 @@ describe-spec =
     tie.close
     (tie.spec
     (λ c κs. search needs)
-    returns
+    is-refused
     (λ c κs. search needs)
-    returns-2)
+    is-answered)

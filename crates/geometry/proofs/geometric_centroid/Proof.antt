@@ -9,9 +9,9 @@ use borrow.Author.Needs.{needs}
 use Rattle.geometry.proofs.geometric_centroid.Statement.{statement}
 use Rattle.geometry.proofs.geometric_centroid.Tie as tie
 
-returns : tie.Need-returns
+is-refused : tie.Need-returns
 unfolding geometricCentroidAnswer
-returns c = refused (c .before .cell-refusal .ensures) Place.Refused _ (c .if1 .taken)
+is-refused c = refused (c .before .cell-refusal .ensures) Place.Refused _ (c .if1 .taken)
 
 geometric-centroid-requires : tie.Need-geometric-centroid-requires
 geometric-centroid-requires c κs =
@@ -20,9 +20,9 @@ geometric-centroid-requires c κs =
     sound (args .coords .now) (args .corners .now) (args .ends .now) [] []
     (sym (c .before .cell-refusal .ensures) ∙ c .if1 .left)
 
-returns-2 : tie.Need-returns-2
+is-answered : tie.Need-returns-2
 unfolding geometricCentroidAnswer
-returns-2 c =
+is-answered c =
     let if1 = c .before .before .if1 in
     let cell-refusal = c .before .before .before .cell-refusal in
     passed (cell-refusal .ensures) _ (if1 .left) (cc)
@@ -33,7 +33,7 @@ geometric-centroid-spec =
     tie.close
     (tie.spec
     (λ c κs. search needs)
-    returns
+    is-refused
     geometric-centroid-requires
     (λ c κs. search needs)
-    returns-2)
+    is-answered)

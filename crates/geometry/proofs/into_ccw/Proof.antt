@@ -9,9 +9,9 @@ use borrow.Author.Needs.{needs}
 use Rattle.geometry.proofs.into_ccw.Statement.{statement}
 use Rattle.geometry.proofs.into_ccw.Tie as tie
 
-returns : tie.Need-returns
+is-refused : tie.Need-returns
 unfolding intoCcwAnswer
-returns c =
+is-refused c =
     let start : tie.Start = search in
     let corners = start .args .corners .now in
     refused (c .before .faces-refusal .ensures) (λ why. (Done.Refused why, corners)) _ (c .if1 .taken)
@@ -25,9 +25,9 @@ into-ccw-requires c κs =
     let known = faces-known (args .coords .now) (args .corners .now) (args .ends .now) [] passed in
     (known .sound, known .solid)
 
-returns-2 : tie.Need-returns-2
+is-answered : tie.Need-returns-2
 unfolding intoCcwAnswer
-returns-2 c =
+is-answered c =
     let at : tie.Else1 = search in
     let turned : tie.After-into-ccw = search in
     passed (at .before .faces-refusal .ensures) _ (at .if1 .left) (rw (turned .into-ccw .ensures))
@@ -36,10 +36,8 @@ pub into-ccw-spec : {M : Type 1} → statement M
 into-ccw-spec =
     tie.close
     (tie.spec
-    (λ c. search needs)
-    (λ c κs. search needs)
-    (λ c. search needs)
-    returns
+    (λ c. search needs) (λ c κs. search needs) (λ c. search needs)
+    is-refused
     into-ccw-requires
     (λ c. search needs)
-    returns-2)
+    is-answered)

@@ -10,9 +10,9 @@ use borrow.Author.Needs.{needs}
 use Rattle.geometry.proofs.is_convex.Statement.{statement}
 use Rattle.geometry.proofs.is_convex.Tie as tie
 
-returns : tie.Need-returns
+is-refused : tie.Need-returns
 unfolding isConvexAnswer
-returns c = refused (c .before .cell-refusal .ensures) Truth.Refused _ (c .if1 .taken)
+is-refused c = refused (c .before .cell-refusal .ensures) Truth.Refused _ (c .if1 .taken)
 
 compute-convexity-requires : tie.Need-compute-convexity-requires
 compute-convexity-requires c κs =
@@ -21,25 +21,25 @@ compute-convexity-requires c κs =
     let at : tie.Else1 = search in
     sound (args .coords .now) (args .corners .now) (args .ends .now) [] [] (sym (at .before .cell-refusal .ensures) ∙ at .if1 .left)
 
-returns-2 : tie.Need-returns-2
+known-convex : tie.Need-returns-2
 unfolding isConvexAnswer isConvexOf cellOf
-returns-2 c =
+known-convex c =
     let at : tie.Else1 = search in
     let made : tie.After-description = search in
     let shape = ap (λ (d : Cell). d .convexity) (made .description .ensures) in
     passed (at .before .cell-refusal .ensures) _ (at .if1 .left) (rw (← shape, c .enum-told .given .1))
 
-returns-3 : tie.Need-returns-3
+known-concave : tie.Need-returns-3
 unfolding isConvexAnswer isConvexOf cellOf
-returns-3 c =
+known-concave c =
     let at : tie.Else1 = search in
     let made : tie.After-description = search in
     let shape = ap (λ (d : Cell). d .convexity) (made .description .ensures) in
     passed (at .before .cell-refusal .ensures) _ (at .if1 .left) (rw (← shape, c .enum-told2 .given .1))
 
-returns-4 : tie.Need-returns-4
+looked-at : tie.Need-returns-4
 unfolding isConvexAnswer isConvexOf cellOf
-returns-4 c =
+looked-at c =
     let at : tie.Else1 = search in
     let made : tie.After-description = search in
     let shape = ap (λ (d : Cell). d .convexity) (made .description .ensures) in
@@ -51,12 +51,9 @@ is-convex-spec =
     tie.close
     (tie.spec
     (λ c κs. search needs)
-    returns
-    (λ c κs. search needs)
-    (λ c. search needs)
-    (λ c. search needs)
-    (λ c. search needs)
+    is-refused
+    (λ c κs. search needs) (λ c. search needs) (λ c. search needs) (λ c. search needs)
     compute-convexity-requires
-    returns-2
-    returns-3
-    returns-4)
+    known-convex
+    known-concave
+    looked-at)

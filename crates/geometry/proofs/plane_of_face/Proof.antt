@@ -17,9 +17,9 @@ known c =
     face-known (args .coords .now) (args .corners .now) (args .ends .now) (args .face) (sym
     (c .before .faces-refusal .ensures) ∙ c .if1 .left)
 
-returns : tie.Need-returns
+is-refused : tie.Need-returns
 unfolding planeOfFaceAnswer
-returns c = refused (c .before .faces-refusal .ensures) refusedPlane _ (c .if1 .taken)
+is-refused c = refused (c .before .faces-refusal .ensures) refusedPlane _ (c .if1 .taken)
 
 face-by-number-requires : tie.Need-face-by-number-requires
 face-by-number-requires c κs = let at : tie.Else1 = search in (known at .ordered, known at .there)
@@ -30,9 +30,9 @@ plane-of-face-requires c κs =
     let found : tie.After-face-by-number = search in
     rw (found .face-by-number .ensures) (known at .inside, known at .some)
 
-returns-2 : tie.Need-returns-2
+is-answered : tie.Need-returns-2
 unfolding planeOfFaceAnswer
-returns-2 c =
+is-answered c =
     let at : tie.Else1 = search in
     let found : tie.After-face-by-number = search in
     let plane : tie.After-plane-of-face = search in
@@ -42,9 +42,8 @@ pub plane-of-face-spec : {M : Type 1} → statement M
 plane-of-face-spec =
     tie.close
     (tie.spec
-    (λ c. search needs)
-    (λ c κs. search needs)
-    returns
+    (λ c. search needs) (λ c κs. search needs)
+    is-refused
     face-by-number-requires
     plane-of-face-requires
-    returns-2)
+    is-answered)

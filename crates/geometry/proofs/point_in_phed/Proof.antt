@@ -8,18 +8,18 @@ use borrow.Author.Needs.{needs}
 use Rattle.geometry.proofs.point_in_phed.Statement.{statement}
 use Rattle.geometry.proofs.point_in_phed.Tie as tie
 
-returns : tie.Need-returns
+is-refused : tie.Need-returns
 unfolding pointInPhedAnswer
-returns c = refused (c .before .phed-refusal .ensures) Truth.Refused _ (c .if1 .taken)
+is-refused c = refused (c .before .phed-refusal .ensures) Truth.Refused _ (c .if1 .taken)
 
 point-in-phed-requires : tie.Need-point-in-phed-requires
 point-in-phed-requires c κs =
     let args = c .before .before .before .before .args in
     phed-known (args .coords .now) (args .cs .now) (args .p) (sym (c .before .phed-refusal .ensures) ∙ c .if1 .left)
 
-returns-2 : tie.Need-returns-2
+is-answered : tie.Need-returns-2
 unfolding pointInPhedAnswer
-returns-2 c =
+is-answered c =
     let phed-refusal = c .before .before .phed-refusal in
     passed (phed-refusal .ensures) _ (c .before .if1 .left) (cc)
 
@@ -29,6 +29,6 @@ point-in-phed-spec =
     tie.close
     (tie.spec
     (λ c κs. search needs)
-    returns
+    is-refused
     point-in-phed-requires
-    returns-2)
+    is-answered)

@@ -6,13 +6,13 @@ use borrow.Author.Needs.{needs}
 use Rattle.geometry.proofs.scale.Statement.{statement}
 use Rattle.geometry.proofs.scale.Tie as tie
 
-returns : tie.Need-returns
+is-refused : tie.Need-returns
 unfolding scaleAnswer
-returns c = refused (c .before .cell-refusal .ensures) Number.Refused _ (c .if1 .taken)
+is-refused c = refused (c .before .cell-refusal .ensures) Number.Refused _ (c .if1 .taken)
 
-returns-2 : tie.Need-returns-2
+is-answered : tie.Need-returns-2
 unfolding scaleAnswer
-returns-2 c =
+is-answered c =
     let if1 = c .before .before .if1 in
     let cell-refusal = c .before .before .before .cell-refusal in
     passed (cell-refusal .ensures) _ (if1 .left) (cc)
@@ -23,6 +23,6 @@ scale-spec =
     tie.close
     (tie.spec
     (λ c κs. search needs)
-    returns
+    is-refused
     (λ c κs. search needs) (λ c κs. search needs)
-    returns-2)
+    is-answered)

@@ -12,9 +12,9 @@ use borrow.Author.Needs.{needs}
 use Rattle.geometry.proofs.survey.Statement.{statement}
 use Rattle.geometry.proofs.survey.Tie as tie
 
-returns : tie.Need-returns
+is-refused : tie.Need-returns
 unfolding surveyAnswer surveyOf measuredOf volumeOf
-returns c = refused (c .before .survey-refusal .ensures) Surveyed.Refused _ (c .if1 .taken)
+is-refused c = refused (c .before .survey-refusal .ensures) Surveyed.Refused _ (c .if1 .taken)
 
 measure-requires : tie.Need-measure-requires
 measure-requires c κs =
@@ -43,12 +43,12 @@ count-contained-requires c κs =
       few-queries (args .coords .now) (args .corners .now) (args .ends .now) (args .queries .now) z,
     )
 
-returns-2 : tie.Need-returns-2
+is-answered : tie.Need-returns-2
 unfolding surveyAnswer surveyOf measuredOf volumeOf
-returns-2 c =
+is-answered c =
     let measure = c .before .before .before .measure in
     let if1 = c .before .before .before .before .if1 in
-    let survey-refusal = c .before .before .before .before .before .survey-refusal in
+    let record { before = _; survey-refusal = survey-refusal } : tie.After-survey-refusal = search in
     let v = ap (λ (x : Measured). x .v6) (measure .ensures) in
     let t = ap (λ (x : Measured). x .triangles) (measure .ensures) in
     let k = ap (λ (x : Measured). x .short) (measure .ensures) in
@@ -60,9 +60,9 @@ survey-spec =
     tie.close
     (tie.spec
     (λ c κs. search needs)
-    returns
+    is-refused
     measure-requires
     closed-requires
     (λ c κs. search needs)
     count-contained-requires
-    returns-2)
+    is-answered)

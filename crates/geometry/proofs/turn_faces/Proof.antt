@@ -15,15 +15,21 @@ use borrow.Author.Needs.{needs}
 use Rattle.geometry.proofs.turn_faces.Statement.{statement}
 use Rattle.geometry.proofs.turn_faces.Tie as tie
 
+-- where the function starts, where the checks are passed, and where the choice is made, told from the nearest place
+abbrev begun : tie.Else1 → tie.Start
+begun c = search
+
+abbrev fit : tie.After-choose → tie.Else1
+fit c = search
+
 -- past the checks the cell is sound
-whole : (c : tie.Else1) → let s : tie.Start = search in Sound (s .args .coords .now) (s .args .corners .now) (s .args .ends .now)
+whole : (c : tie.Else1) → Sound (begun c .args .coords .now) (begun c .args .corners .now) (begun c .args .ends .now)
 whole c =
-    let start : tie.Start = search in
-    let args = start .args in
+    let args = begun c .args in
     sound (args .coords .now) (args .corners .now) (args .ends .now) [] [] (sym (c .before .cell-refusal .ensures) ∙ c .if1 .left)
 
-returns : tie.Need-returns
-returns c =
+is-refused : tie.Need-returns
+is-refused c =
     let start : tie.Start = search in
     let args = start .args in
     turn-faces-refused (args .coords .now) (args .corners .now) (args .ends .now) (c .before .cell-refusal .ensures)
@@ -38,8 +44,7 @@ slice-aggregate-part c = first-of _ 256 0 (whole (c .before) .few-faces)
 choose-requires : tie.Need-choose-requires
 choose-requires c κs =
     let else1 = c .before .before .before in
-    let start = c .before .before .before .before .before .before .before .before .before in
-    let args = start .args in
+    let args = begun else1 .args in
     let s = whole else1 in (
       rw (← length-threes (args .coords .now)) (s .inside, s .few),
       (
@@ -48,48 +53,43 @@ choose-requires c κs =
       ),
     )
 
-returns-2 : tie.Need-returns-2
-returns-2 c =
-    let choose = c .before .before .before .before .choose in
-    let if1 = c .before .before .before .before .before .before .before .before .if1 in
-    let after-cell-refusal : tie.After-cell-refusal = search in
-    let start = after-cell-refusal .before .before .before .before .before in
-    let args = start .args in
-    turn-faces-none (args .coords .now) (args .corners .now) (args .ends .now) (after-cell-refusal .cell-refusal .ensures)
-    (if1 .left) (choose .ensures) (c .before .if2 .taken)
+no-choice : tie.Need-returns-2
+no-choice c =
+    let chosen : tie.After-choose = search in
+    let else1 = fit chosen in
+    let args = begun else1 .args in
+    turn-faces-none (args .coords .now) (args .corners .now) (args .ends .now) (else1 .before .cell-refusal .ensures)
+    (else1 .if1 .left) (chosen .choose .ensures) (c .before .if2 .taken)
 
 reverse-faces-requires : tie.Need-reverse-faces-requires
 reverse-faces-requires c κs =
     let else1 : tie.Else1 = search in
-    let start = else1 .before .before .before .before .before .before in
     let s = whole else1 in (
       (s .ordered, s .few-corners),
-      (omega (arith, sym (first-of {A = ℕ} (length (start .args .ends .now)) 256 0 (s .few-faces))), s .few-faces),
+      (omega (arith, sym (first-of {A = ℕ} (length (begun else1 .args .ends .now)) 256 0 (s .few-faces))), s .few-faces),
     )
 
-returns-3 : tie.Need-returns-3
-returns-3 c =
+is-turned : tie.Need-returns-3
+is-turned c =
     let reverse-faces = c .before .before .before .reverse-faces in
-    let if2 = c .before .before .before .before .before .before .if2 in
-    let after-choose : tie.After-choose = search in
-    let if1 = after-choose .before .before .before .before .if1 in
-    let cell-refusal = after-choose .before .before .before .before .before .cell-refusal in
-    let start = after-choose .before .before .before .before .before .before .before .before .before .before in
-    let args = start .args in
-    turn-faces-done (args .coords .now) (args .corners .now) (args .ends .now) (cell-refusal .ensures) (if1 .left)
-    (after-choose .choose .ensures) (if2 .left) (reverse-faces .ensures .0) (reverse-faces .ensures .1)
+    let record { before = _; if2 = if2 } : tie.Else2 = search in
+    let chosen : tie.After-choose = search in
+    let else1 = fit chosen in
+    let args = begun else1 .args in
+    turn-faces-done (args .coords .now) (args .corners .now) (args .ends .now) (else1 .before .cell-refusal .ensures)
+    (else1 .if1 .left) (chosen .choose .ensures) (if2 .left) (reverse-faces .ensures .0) (reverse-faces .ensures .1)
 
 pub turn-faces-spec : {M : Type 1} → statement M
 turn-faces-spec =
     tie.close
     (tie.spec
     (λ c κs. search needs) (λ c. search needs)
-    returns
+    is-refused
     array-borrow-prefix-code
     slice-aggregate-part
     choose-requires
     (λ c. search needs)
-    returns-2
+    no-choice
     reverse-faces-requires
     (λ c. search needs)
-    returns-3)
+    is-turned)

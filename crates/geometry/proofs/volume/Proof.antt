@@ -9,9 +9,9 @@ use borrow.Author.Needs.{needs}
 use Rattle.geometry.proofs.volume.Statement.{statement}
 use Rattle.geometry.proofs.volume.Tie as tie
 
-returns : tie.Need-returns
+is-refused : tie.Need-returns
 unfolding volumeAnswer
-returns c = refused (c .before .cell-refusal .ensures) Number.Refused _ (c .if1 .taken)
+is-refused c = refused (c .before .cell-refusal .ensures) Number.Refused _ (c .if1 .taken)
 
 volume-requires : tie.Need-volume-requires
 volume-requires c κs =
@@ -20,9 +20,9 @@ volume-requires c κs =
     sound (args .coords .now) (args .corners .now) (args .ends .now) [] []
     (sym (c .before .cell-refusal .ensures) ∙ c .if1 .left)
 
-returns-2 : tie.Need-returns-2
+is-answered : tie.Need-returns-2
 unfolding volumeAnswer
-returns-2 c =
+is-answered c =
     let cell-refusal = c .before .before .cell-refusal in
     passed (cell-refusal .ensures) _ (c .before .if1 .left) (cc)
 
@@ -32,6 +32,6 @@ volume-spec =
     tie.close
     (tie.spec
     (λ c κs. search needs)
-    returns
+    is-refused
     volume-requires
-    returns-2)
+    is-answered)

@@ -10,9 +10,9 @@ use borrow.Author.Needs.{needs}
 use Rattle.geometry.proofs.clipping.clip_convex.Statement.{statement}
 use Rattle.geometry.proofs.clipping.clip_convex.Tie as tie
 
-returns : tie.Need-returns
+is-refused : tie.Need-returns
 unfolding clipConvexAnswer
-returns c =
+is-refused c =
     let start : tie.Start = search in
     let found : tie.After-planar-refusal = search in
     let at : tie.Then1 = search in
@@ -28,9 +28,9 @@ clip-convex-shown-requires c κs =
     let known = planar-known (args .subject .now) (args .clip .now) (args .first .now) (args .second .now) passed in
     ((known .subject-few, known .clip-few), (known .first-few, known .second-few))
 
-returns-2 : tie.Need-returns-2
+is-answered : tie.Need-returns-2
 unfolding clipConvexAnswer
-returns-2 c =
+is-answered c =
     let start : tie.Start = search in
     let at : tie.Else1 = search in
     let shown : tie.After-clip-convex-shown = search in
@@ -43,12 +43,8 @@ pub clip-convex-spec : {M : Type 1} → statement M
 clip-convex-spec =
     tie.close
     (tie.spec
-    (λ c κs. search needs)
-    (λ c. search needs)
-    (λ c. search needs)
-    returns
+    (λ c κs. search needs) (λ c. search needs) (λ c. search needs)
+    is-refused
     clip-convex-shown-requires
-    (λ c κs. search needs)
-    (λ c. search needs)
-    (λ c. search needs)
-    returns-2)
+    (λ c κs. search needs) (λ c. search needs) (λ c. search needs)
+    is-answered)

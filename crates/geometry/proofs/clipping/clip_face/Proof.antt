@@ -21,9 +21,9 @@ known c =
     (args .second .now)
     (sym (c .before .clip-refusal .ensures) ∙ c .if1 .left)
 
-returns : tie.Need-returns
+is-refused : tie.Need-returns
 unfolding clipFaceAnswer
-returns c =
+is-refused c =
     let start : tie.Start = search in
     let found : tie.After-clip-refusal = search in
     let at : tie.Then1 = search in
@@ -40,9 +40,9 @@ clip-face-shown-requires c κs =
     let found : tie.After-face-by-number = search in
     rw (found .face-by-number .ensures) (k .inside, ((k .corners-few, k .planes-few), (k .first-few, k .second-few)))
 
-returns-2 : tie.Need-returns-2
+is-answered : tie.Need-returns-2
 unfolding clipFaceAnswer
-returns-2 c =
+is-answered c =
     let start : tie.Start = search in
     let at : tie.Else1 = search in
     let found : tie.After-face-by-number = search in
@@ -56,13 +56,9 @@ pub clip-face-spec : {M : Type 1} → statement M
 clip-face-spec =
     tie.close
     (tie.spec
-    (λ c κs. search needs)
-    (λ c. search needs)
-    (λ c. search needs)
-    returns
+    (λ c κs. search needs) (λ c. search needs) (λ c. search needs)
+    is-refused
     face-by-number-requires
     clip-face-shown-requires
-    (λ c κs. search needs)
-    (λ c. search needs)
-    (λ c. search needs)
-    returns-2)
+    (λ c κs. search needs) (λ c. search needs) (λ c. search needs)
+    is-answered)

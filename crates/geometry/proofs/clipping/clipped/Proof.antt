@@ -3,16 +3,13 @@ use borrow.Author.Needs.{needs}
 use Rattle.geometry.proofs.clipping.clipped.Statement.{statement}
 use Rattle.geometry.proofs.clipping.clipped.Tie as tie
 
-returns-2 : tie.Need-returns-2
-returns-2 c = rw (c .before .left .given .1)
+outline-left : tie.Need-returns-2
+outline-left c = rw (c .before .left .given .1)
 
 pub clipped-spec : {M : Type 1} → statement M
 clipped-spec =
     tie.close
     (tie.spec
-    (λ c. search needs)
-    (λ c. search needs)
-    (λ c. search needs)
-    (λ c. search needs)
-    returns-2
+    (λ c. search needs) (λ c. search needs) (λ c. search needs) (λ c. search needs)
+    outline-left
     (λ c. search needs))

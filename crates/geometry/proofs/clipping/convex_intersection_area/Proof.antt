@@ -11,9 +11,9 @@ use borrow.Author.Needs.{needs}
 use Rattle.geometry.proofs.clipping.convex_intersection_area.Statement.{statement}
 use Rattle.geometry.proofs.clipping.convex_intersection_area.Tie as tie
 
-returns : tie.Need-returns
+is-refused : tie.Need-returns
 unfolding overlapAreaAnswer
-returns c =
+is-refused c =
     let start : tie.Start = search in
     let found : tie.After-planar-refusal = search in
     let at : tie.Then1 = search in
@@ -29,9 +29,9 @@ convex-intersection-area-requires c κs =
     let known = planar-known (args .subject .now) (args .clip .now) (args .first .now) (args .second .now) passed in
     ((known .subject-few, known .clip-few), (known .first-few, known .second-few))
 
-returns-2 : tie.Need-returns-2
+is-answered : tie.Need-returns-2
 unfolding overlapAreaAnswer
-returns-2 c =
+is-answered c =
     let start : tie.Start = search in
     let at : tie.Else1 = search in
     let area : tie.After-convex-intersection-area = search in
@@ -46,13 +46,8 @@ pub convex-intersection-area-spec : {M : Type 1} → statement M
 convex-intersection-area-spec =
     tie.close
     (tie.spec
-    (λ c κs. search needs)
-    (λ c. search needs)
-    (λ c. search needs)
-    returns
+    (λ c κs. search needs) (λ c. search needs) (λ c. search needs)
+    is-refused
     convex-intersection-area-requires
-    (λ c κs. search needs)
-    (λ c κs. search needs)
-    (λ c. search needs)
-    (λ c. search needs)
-    returns-2)
+    (λ c κs. search needs) (λ c κs. search needs) (λ c. search needs) (λ c. search needs)
+    is-answered)

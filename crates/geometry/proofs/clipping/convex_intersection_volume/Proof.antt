@@ -10,9 +10,9 @@ use borrow.Author.Needs.{needs}
 use Rattle.geometry.proofs.clipping.convex_intersection_volume.Statement.{statement}
 use Rattle.geometry.proofs.clipping.convex_intersection_volume.Tie as tie
 
-returns : tie.Need-returns
+is-refused : tie.Need-returns
 unfolding overlapAnswer
-returns c =
+is-refused c =
     let start : tie.Start = search in
     let found : tie.After-overlap-refusal = search in
     let at : tie.Then1 = search in
@@ -31,9 +31,9 @@ convex-intersection-volume-requires c κs =
       (record { sound = known .other .sound; no-empty = known .other .solid }, (known .first-few, known .second-few)),
     )
 
-returns-2 : tie.Need-returns-2
+is-answered : tie.Need-returns-2
 unfolding overlapAnswer
-returns-2 c =
+is-answered c =
     let start : tie.Start = search in
     let at : tie.Else1 = search in
     let volume : tie.After-convex-intersection-volume = search in
@@ -46,12 +46,8 @@ pub convex-intersection-volume-spec : {M : Type 1} → statement M
 convex-intersection-volume-spec =
     tie.close
     (tie.spec
-    (λ c κs. search needs)
-    (λ c. search needs)
-    (λ c. search needs)
-    returns
+    (λ c κs. search needs) (λ c. search needs) (λ c. search needs)
+    is-refused
     convex-intersection-volume-requires
-    (λ c κs. search needs)
-    (λ c. search needs)
-    (λ c. search needs)
-    returns-2)
+    (λ c κs. search needs) (λ c. search needs) (λ c. search needs)
+    is-answered)

@@ -7,7 +7,6 @@ pub number-spec : {M : Type 1} → statement M
 number-spec =
     tie.close
     (tie.spec
-    (λ c. search needs)
-    (λ c. search needs)
+    (λ c. search needs) (λ c. search needs)
     (λ c. rw (c .before .sum .given .1))
     (λ c. rw (c .enum-told .given .1)))

@@ -6,15 +6,15 @@ use borrow.Author.Needs.{needs}
 use Rattle.geometry.proofs.in_plane.bounds2.Statement.{statement}
 use Rattle.geometry.proofs.in_plane.bounds2.Tie as tie
 
-returns : tie.Need-returns
+is-refused : tie.Need-returns
 unfolding bounds2Answer
-returns c = refused (c .before .plane-refusal .ensures) PlaneExtent.Refused _ (c .if1 .taken)
+is-refused c = refused (c .before .plane-refusal .ensures) PlaneExtent.Refused _ (c .if1 .taken)
 
-returns-2 : tie.Need-returns-2
+is-answered : tie.Need-returns-2
 unfolding bounds2Answer
-returns-2 c =
-    let if1 = c .before .before .before .before .before .if1 in
-    let plane-refusal = c .before .before .before .before .before .before .plane-refusal in
+is-answered c =
+    let record { before = _; if1 = if1 } : tie.Else1 = search in
+    let record { before = _; plane-refusal = plane-refusal } : tie.After-plane-refusal = search in
     passed (plane-refusal .ensures) _ (if1 .left) (cc)
 
 pub bounds2-spec : {M : Type 1} → statement M
@@ -23,6 +23,6 @@ bounds2-spec =
     tie.close
     (tie.spec
     (λ c κs. search needs)
-    returns
+    is-refused
     (λ c κs. search needs) (λ c. search needs) (λ c. search needs) (λ c κs. search needs) (λ c κs. search needs)
-    returns-2)
+    is-answered)

@@ -8,9 +8,9 @@ use borrow.Author.Needs.{needs}
 use Rattle.geometry.proofs.in_plane.into_ccw2.Statement.{statement}
 use Rattle.geometry.proofs.in_plane.into_ccw2.Tie as tie
 
-returns : tie.Need-returns
+is-refused : tie.Need-returns
 unfolding intoCcw2Answer
-returns c =
+is-refused c =
     let start : tie.Start = search in
     let ps = start .args .ps .now in
     refused (c .before .plane-refusal .ensures) (λ why. (Done.Refused why, ps)) _ (c .if1 .taken)
@@ -21,9 +21,9 @@ into-ccw2-requires c κs =
     let at : tie.Else1 = search in
     plane-counted (start .args .ps .now) (sym (at .before .plane-refusal .ensures) ∙ at .if1 .left) .0
 
-returns-2 : tie.Need-returns-2
+is-answered : tie.Need-returns-2
 unfolding intoCcw2Answer
-returns-2 c =
+is-answered c =
     let at : tie.Else1 = search in
     let turned : tie.After-into-ccw2 = search in
     passed (at .before .plane-refusal .ensures) _ (at .if1 .left) (rw (turned .into-ccw2 .ensures))
@@ -32,9 +32,8 @@ pub into-ccw2-spec : {M : Type 1} → statement M
 into-ccw2-spec =
     tie.close
     (tie.spec
-    (λ c κs. search needs)
-    (λ c. search needs)
-    returns
+    (λ c κs. search needs) (λ c. search needs)
+    is-refused
     into-ccw2-requires
     (λ c. search needs)
-    returns-2)
+    is-answered)

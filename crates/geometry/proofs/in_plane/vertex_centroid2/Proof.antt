@@ -8,18 +8,18 @@ use borrow.Author.Needs.{needs}
 use Rattle.geometry.proofs.in_plane.vertex_centroid2.Statement.{statement}
 use Rattle.geometry.proofs.in_plane.vertex_centroid2.Tie as tie
 
-returns : tie.Need-returns
+is-refused : tie.Need-returns
 unfolding vertexCentroid2Answer
-returns c = refused (c .before .plane-refusal .ensures) PlanePlace.Refused _ (c .if1 .taken)
+is-refused c = refused (c .before .plane-refusal .ensures) PlanePlace.Refused _ (c .if1 .taken)
 
 vertex-centroid2-requires : tie.Need-vertex-centroid2-requires
 vertex-centroid2-requires c κs =
     let args = c .before .before .before .args in
     plane-counted (args .ps .now) (sym (c .before .plane-refusal .ensures) ∙ c .if1 .left) .1
 
-returns-2 : tie.Need-returns-2
+is-answered : tie.Need-returns-2
 unfolding vertexCentroid2Answer
-returns-2 c =
+is-answered c =
     let if1 = c .before .before .if1 in
     let plane-refusal = c .before .before .before .plane-refusal in
     passed (plane-refusal .ensures) _ (if1 .left) (cc)
@@ -30,7 +30,7 @@ vertex-centroid2-spec =
     tie.close
     (tie.spec
     (λ c κs. search needs)
-    returns
+    is-refused
     vertex-centroid2-requires
     (λ c κs. search needs)
-    returns-2)
+    is-answered)

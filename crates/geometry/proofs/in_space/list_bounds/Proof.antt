@@ -6,15 +6,15 @@ use borrow.Author.Needs.{needs}
 use Rattle.geometry.proofs.in_space.list_bounds.Statement.{statement}
 use Rattle.geometry.proofs.in_space.list_bounds.Tie as tie
 
-returns : tie.Need-returns
+is-refused : tie.Need-returns
 unfolding listBoundsAnswer
-returns c = refused (c .before .list-refusal .ensures) Extent.Refused _ (c .if1 .taken)
+is-refused c = refused (c .before .list-refusal .ensures) Extent.Refused _ (c .if1 .taken)
 
-returns-2 : tie.Need-returns-2
+is-answered : tie.Need-returns-2
 unfolding listBoundsAnswer
-returns-2 c =
-    let if1 = c .before .before .before .before .before .if1 in
-    let list-refusal = c .before .before .before .before .before .before .list-refusal in
+is-answered c =
+    let record { before = _; if1 = if1 } : tie.Else1 = search in
+    let record { before = _; list-refusal = list-refusal } : tie.After-list-refusal = search in
     passed (list-refusal .ensures) _ (if1 .left) (cc)
 
 pub list-bounds-spec : {M : Type 1} → statement M
@@ -23,6 +23,6 @@ list-bounds-spec =
     tie.close
     (tie.spec
     (λ c κs. search needs)
-    returns
+    is-refused
     (λ c κs. search needs) (λ c. search needs) (λ c. search needs) (λ c κs. search needs) (λ c κs. search needs)
-    returns-2)
+    is-answered)

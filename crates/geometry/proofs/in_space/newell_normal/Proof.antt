@@ -6,13 +6,13 @@ use borrow.Author.Needs.{needs}
 use Rattle.geometry.proofs.in_space.newell_normal.Statement.{statement}
 use Rattle.geometry.proofs.in_space.newell_normal.Tie as tie
 
-returns : tie.Need-returns
+is-refused : tie.Need-returns
 unfolding newellNormalAnswer
-returns c = refused (c .before .list-refusal .ensures) Place.Refused _ (c .if1 .taken)
+is-refused c = refused (c .before .list-refusal .ensures) Place.Refused _ (c .if1 .taken)
 
-returns-2 : tie.Need-returns-2
+is-answered : tie.Need-returns-2
 unfolding newellNormalAnswer
-returns-2 c =
+is-answered c =
     let if1 = c .before .before .if1 in
     let list-refusal = c .before .before .before .list-refusal in
     passed (list-refusal .ensures) _ (if1 .left) (cc)
@@ -23,6 +23,6 @@ newell-normal-spec =
     tie.close
     (tie.spec
     (λ c κs. search needs)
-    returns
+    is-refused
     (λ c κs. search needs) (λ c κs. search needs)
-    returns-2)
+    is-answered)

@@ -10,9 +10,9 @@ use borrow.Author.Needs.{needs}
 use Rattle.geometry.proofs.in_space.vertex_centroid.Statement.{statement}
 use Rattle.geometry.proofs.in_space.vertex_centroid.Tie as tie
 
-returns : tie.Need-returns
+is-refused : tie.Need-returns
 unfolding vertexCentroidAnswer
-returns c = refused (c .before .list-refusal .ensures) Place.Refused _ (c .if1 .taken)
+is-refused c = refused (c .before .list-refusal .ensures) Place.Refused _ (c .if1 .taken)
 
 vertex-centroid-requires : tie.Need-vertex-centroid-requires
 vertex-centroid-requires c κs =
@@ -20,9 +20,9 @@ vertex-centroid-requires c κs =
     let s = list-counted (args .coords .now) (sym (c .before .list-refusal .ensures) ∙ c .if1 .left) in
     omega (arith, length-threes (args .coords .now), s .threes, s .few)
 
-returns-2 : tie.Need-returns-2
+is-answered : tie.Need-returns-2
 unfolding vertexCentroidAnswer
-returns-2 c =
+is-answered c =
     let if1 = c .before .before .if1 in
     let list-refusal = c .before .before .before .list-refusal in
     passed (list-refusal .ensures) _ (if1 .left) (cc)
@@ -33,7 +33,7 @@ vertex-centroid-spec =
     tie.close
     (tie.spec
     (λ c κs. search needs)
-    returns
+    is-refused
     vertex-centroid-requires
     (λ c κs. search needs)
-    returns-2)
+    is-answered)

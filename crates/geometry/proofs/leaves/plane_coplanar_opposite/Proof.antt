@@ -12,7 +12,5 @@ pub plane-coplanar-opposite-spec : {M : Type 1} → statement M
 plane-coplanar-opposite-spec =
     tie.close
     (tie.spec
-    (λ c κs. search needs)
-    (λ c κs. search needs)
-    (λ c κs. search needs)
+    (λ c κs. search needs) (λ c κs. search needs) (λ c κs. search needs)
     returns)

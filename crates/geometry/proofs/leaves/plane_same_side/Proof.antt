@@ -12,7 +12,5 @@ pub plane-same-side-spec : {M : Type 1} → statement M
 plane-same-side-spec =
     tie.close
     (tie.spec
-    (λ c κs. search needs)
-    (λ c κs. search needs)
-    (λ c κs. search needs)
+    (λ c κs. search needs) (λ c κs. search needs) (λ c κs. search needs)
     returns)

@@ -4,13 +4,13 @@ use borrow.Author.Needs.{needs}
 use Rattle.abi.proofs.cells.uncounted.Statement.{statement}
 use Rattle.abi.proofs.cells.uncounted.Tie as tie
 
-returns : tie.Need-returns
-returns c =
+has-triangles : tie.Need-returns
+has-triangles c =
     let made : tie.After-triangles = search in
     uncounted-is (made .triangles .ensures) (c .enum-told .given .1)
 
-returns-2 : tie.Need-returns-2
-returns-2 c =
+is-refused : tie.Need-returns-2
+is-refused c =
     let made : tie.After-triangles = search in
     uncounted-refused (made .triangles .ensures) (c .before .why .given .1)
 
@@ -18,10 +18,6 @@ pub uncounted-spec : {M : Type 1} → statement M
 uncounted-spec =
     tie.close
     (tie.spec
-    (λ c. search needs)
-    (λ c. search needs)
-    (λ c κs. search needs)
-    (λ c. search needs)
-    (λ c. search needs)
-    returns
-    returns-2)
+    (λ c. search needs) (λ c. search needs) (λ c κs. search needs) (λ c. search needs) (λ c. search needs)
+    has-triangles
+    is-refused)

@@ -6,16 +6,16 @@ use borrow.Author.Needs.{needs}
 use Rattle.abi.proofs.cells.wegrusamt_triangles.Statement.{statement}
 use Rattle.abi.proofs.cells.wegrusamt_triangles.Tie as tie
 
-returns : tie.Need-returns
-returns c =
+no-place : tie.Need-returns
+no-place c =
     let start : tie.Start = search in
     let args = start .args in
     let at : tie.Then1 = search in
     triangles-short (args .coords .now) (args .corners .now) (args .ends .now) (args .face) (args .out .now) (args .count .now)
     (at .if1 .taken) (c .uncounted .ensures)
 
-returns-2 : tie.Need-returns-2
-returns-2 c =
+is-told : tie.Need-returns-2
+is-told c =
     let start : tie.Start = search in
     let args = start .args in
     let at : tie.Else1 = search in
@@ -29,9 +29,6 @@ wegrusamt-triangles-spec =
     tie.close
     (tie.spec
     (λ c κs. search needs)
-    returns
-    (λ c κs. search needs)
-    (λ c κs. search needs)
-    (λ c. search needs)
-    (λ c. search needs)
-    returns-2)
+    no-place
+    (λ c κs. search needs) (λ c κs. search needs) (λ c. search needs) (λ c. search needs)
+    is-told)

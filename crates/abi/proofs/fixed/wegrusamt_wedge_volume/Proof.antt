@@ -4,13 +4,13 @@ use borrow.Author.Needs.{needs}
 use Rattle.abi.proofs.fixed.wegrusamt_wedge_volume.Statement.{statement}
 use Rattle.abi.proofs.fixed.wegrusamt_wedge_volume.Tie as tie
 
-returns : tie.Need-returns
-returns c =
+other-length : tie.Need-returns
+other-length c =
     let start : tie.Start = search in
     shape-refused 18 (start .args .p .now) _ (start .args .out .now) _ (c .if1 .taken)
 
-returns-2 : tie.Need-returns-2
-returns-2 c =
+right-length : tie.Need-returns-2
+right-length c =
     let start : tie.Start = search in
     let at : tie.Else1 = search in
     let corners : tie.After-six = search in
@@ -23,10 +23,6 @@ pub wegrusamt-wedge-volume-spec : {M : Type 1} → statement M
 wegrusamt-wedge-volume-spec =
     tie.close
     (tie.spec
-    returns
-    (λ c κs. search needs)
-    (λ c κs. search needs)
-    (λ c. search needs)
-    (λ c κs. search needs)
-    (λ c. search needs)
-    returns-2)
+    other-length
+    (λ c κs. search needs) (λ c κs. search needs) (λ c. search needs) (λ c κs. search needs) (λ c. search needs)
+    right-length)

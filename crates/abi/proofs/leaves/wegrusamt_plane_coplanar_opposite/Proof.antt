@@ -10,6 +10,5 @@ pub wegrusamt-plane-coplanar-opposite-spec : {M : Type 1} → statement M
 wegrusamt-plane-coplanar-opposite-spec =
     tie.close
     (tie.spec
-    (λ c κs. search needs)
-    (λ c κs. search needs)
+    (λ c κs. search needs) (λ c κs. search needs)
     returns)

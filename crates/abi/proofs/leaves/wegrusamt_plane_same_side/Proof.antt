@@ -10,6 +10,5 @@ pub wegrusamt-plane-same-side-spec : {M : Type 1} → statement M
 wegrusamt-plane-same-side-spec =
     tie.close
     (tie.spec
-    (λ c κs. search needs)
-    (λ c κs. search needs)
+    (λ c κs. search needs) (λ c κs. search needs)
     returns)

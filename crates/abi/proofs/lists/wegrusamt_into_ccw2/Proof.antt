@@ -14,7 +14,5 @@ pub wegrusamt-into-ccw2-spec : {M : Type 1} → statement M
 wegrusamt-into-ccw2-spec =
     tie.close
     (tie.spec
-    (λ c κs. search needs)
-    (λ c κs. search needs)
-    (λ c. search needs)
+    (λ c κs. search needs) (λ c κs. search needs) (λ c. search needs)
     returns)

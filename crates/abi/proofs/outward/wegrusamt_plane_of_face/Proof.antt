@@ -10,7 +10,5 @@ pub wegrusamt-plane-of-face-spec : {M : Type 1} → statement M
 wegrusamt-plane-of-face-spec =
     tie.close
     (tie.spec
-    (λ c κs. search needs)
-    (λ c κs. search needs)
-    (λ c. search needs)
+    (λ c κs. search needs) (λ c κs. search needs) (λ c. search needs)
     returns)

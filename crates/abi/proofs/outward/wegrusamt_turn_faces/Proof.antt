@@ -5,8 +5,8 @@ use borrow.Author.Needs.{needs}
 use Rattle.abi.proofs.outward.wegrusamt_turn_faces.Statement.{statement}
 use Rattle.abi.proofs.outward.wegrusamt_turn_faces.Tie as tie
 
-returns : tie.Need-returns
-returns c =
+no-place : tie.Need-returns
+no-place c =
     let start : tie.Start = search in
     let args = start .args in
     let at : tie.Then1 = search in
@@ -15,8 +15,8 @@ returns c =
     turn-short (args .coords .now) (args .corners .now) (args .ends .now) (args .out .now) (at .if1 .taken) (asked .can-turn .ensures)
     (code .untold .ensures)
 
-returns-2 : tie.Need-returns-2
-returns-2 c =
+is-told : tie.Need-returns-2
+is-told c =
     let start : tie.Start = search in
     let args = start .args in
     let at : tie.Else1 = search in
@@ -29,12 +29,7 @@ pub wegrusamt-turn-faces-spec : {M : Type 1} → statement M
 wegrusamt-turn-faces-spec =
     tie.close
     (tie.spec
-    (λ c κs. search needs)
-    (λ c κs. search needs)
-    (λ c. search needs)
-    returns
-    (λ c κs. search needs)
-    (λ c κs. search needs)
-    (λ c. search needs)
-    (λ c. search needs)
-    returns-2)
+    (λ c κs. search needs) (λ c κs. search needs) (λ c. search needs)
+    no-place
+    (λ c κs. search needs) (λ c κs. search needs) (λ c. search needs) (λ c. search needs)
+    is-told)

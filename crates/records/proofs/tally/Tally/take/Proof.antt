@@ -62,8 +62,7 @@ take-spec =
     (tie.spec
     is-refused
     (λ c κs. search needs) (λ c κs. search needs) (λ c κs. search needs)
-    (λ c κs. search needs) (λ c κs. search needs) (λ c κs. search needs)
-    (λ c. search needs)
+    (λ c κs. search needs) (λ c κs. search needs) (λ c κs. search needs) (λ c. search needs)
     vertex
     (λ c. search needs)
     corner

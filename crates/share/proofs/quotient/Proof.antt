@@ -3,23 +3,20 @@ use borrow.Author.Needs.{needs}
 use Rattle.share.proofs.quotient.Statement.{statement}
 use Rattle.share.proofs.quotient.Tie as tie
 
-returns : tie.Need-returns
-returns c = rw (c .before .part .given .1)
+part-refused : tie.Need-returns
+part-refused c = rw (c .before .part .given .1)
 
-returns-2 : tie.Need-returns-2
-returns-2 c = rw (c .before .before .before .before .part2 .given .1, c .before .whole .given .1)
+whole-refused : tie.Need-returns-2
+whole-refused c = rw (c .before .before .before .before .part2 .given .1, c .before .whole .given .1)
 
-returns-3 : tie.Need-returns-3
-returns-3 c = rw (c .before .before .before .before .part2 .given .1, c .before .whole2 .given .1)
+both-numbers : tie.Need-returns-3
+both-numbers c = rw (c .before .before .before .before .part2 .given .1, c .before .whole2 .given .1)
 
 pub quotient-spec : {M : Type 1} → statement M
 quotient-spec =
     tie.close
     (tie.spec
-    (λ c. search needs)
-    (λ c. search needs)
-    (λ c. search needs)
-    (λ c. search needs)
-    returns
-    returns-2
-    returns-3)
+    (λ c. search needs) (λ c. search needs) (λ c. search needs) (λ c. search needs)
+    part-refused
+    whole-refused
+    both-numbers)

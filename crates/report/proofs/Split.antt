@@ -1,6 +1,7 @@
 -- However the input is split, a run prints the report of the whole: the whole records of the bytes so far, and then those of what waits
 -- with the next piece behind it, are the whole records of all of them, in their order.
 use mathlib.Core.Path.{_≡_, refl, sym, ap, _∙_}
+use mathlib.Core.Bool.{Bool}
 use mathlib.Core.List.{List, [], _∷_, _++_, append-assoc, append-nil}
 use Prim.Native.Nat.{ℕ, _+_, _-_, _*_, _/_, _≤_, _<_}
 use native.Mathlib.Omega.{arith}
@@ -15,7 +16,7 @@ use Rattle.records.specs.Tally.{newOf}
 use Rattle.report.specs.Report.{Held, heldOf, freshOf, after, linesOf, recordsFrom, restFrom, recordsOf, restOf, tailOf}
 use Rattle.report.specs.Report.{reportFrom, reportOf, movedOf}
 use Rattle.report.specs.Split.{printedFrom, AnySplit, OneReport, Reached, Starts, OneMore, AtTheEnd, Takes, Feeds, Finishes}
-use Rattle.report.specs.Split.{WentOn, Running}
+use Rattle.report.specs.Split.{Running, cameOf, endOf, TookRead}
 use Rattle.report.proofs.Joining.{records-append, rest-append, rest-short, waiting, waiting-rest, rest-drop, after-append}
 use Rattle.report.proofs.Joining.{lines-append}
 use Rattle.report.proofs.Taken.{front}
@@ -103,35 +104,39 @@ moved-rest b total l m =
         ∙ ap (drop f) (sym (take-add f n b) ∙ ap (λ (k : ℕ). take k b) e)
 
 -- ---- the program
+-- the block's first bytes were fed: those that waited, and behind them those that came
+pub came-in : {h h′ : Held} {w′ p : List ℕ} (waited n : ℕ) (block : List ℕ) → Feeds h (take (waited + n) block) h′ w′ p
+    → Takes h (take waited block) (cameOf waited n block) h′ w′ p
+came-in waited n block f = f .takes (take waited block) (cameOf waited n block) (take-add waited n block)
+
 -- nothing came: the state is as it was, and nothing is printed
-pub stays : {t u : Tally} {have n m : ℕ} (a : List Float) (b c : List ℕ) (d : List Float) (block block′ out : List ℕ)
-    → u ≡ t → n ≡ have → m ≡ 0 → take have block′ ≡ take have block
-    → WentOn (heldOf t a b c d) (take have block) (heldOf u a b c d) (take n block′) (take m out)
-stays a b c d block block′ out e f g k =
+pub none-came : {t u : Tally} {waited n have m : ℕ} {failed ended : Bool} (a : List Float) (b c : List ℕ) (d : List Float)
+    (block out : List ℕ) → n ≡ 0 → u ≡ t → have ≡ waited → m ≡ 0 → ended ≡ endOf failed n
+    → TookRead (heldOf t a b c d) block waited n failed (heldOf u a b c d) (take have block) (take m out) ended
+none-came a b c d block out z e f g k =
     record {
-      came = [];
-      takes = record { on = λ given printed r. rw (e, f, g, k, append-nil given, append-nil printed) r };
+      takes = record { on = λ given printed r. rw (z, e, f, g, append-nil given, append-nil printed) r };
+      told = k;
     }
 
--- the block's first bytes were fed: those that waited, and behind them those that came
-pub came-in : {h h′ : Held} {w′ p : List ℕ} (have n : ℕ) (block : List ℕ) → Feeds h (take (have + n) block) h′ w′ p
-    → Takes h (take have block) (take n (drop have block)) h′ w′ p
-came-in have n block f = f .takes (take have block) (take n (drop have block)) (take-add have n block)
-
--- the bytes s came behind those that waited
-pub went : {h : Held} {w v s : List ℕ} {t u : Tally} {n n′ m m′ : ℕ} (a : List Float) (b c : List ℕ) (d : List Float) (block out : List ℕ)
-    → v ≡ w → Takes h v s (heldOf t a b c d) (take n block) (take m out) → u ≡ t → n′ ≡ n → m′ ≡ m
-    → WentOn h w (heldOf u a b c d) (take n′ block) (take m′ out)
-went {s} a b c d block out k f e g i = record { came = s; takes = rw (e, g, i, ← k) f }
+-- bytes came, and were taken
+pub some-came : {h : Held} {t u : Tally} {waited n have have′ m m′ : ℕ} {failed ended : Bool} (a : List Float) (b c : List ℕ)
+    (d : List Float) (block block′ out : List ℕ)
+    → Takes h (take waited block) (cameOf waited n block) (heldOf t a b c d) (take have block′) (take m out)
+    → u ≡ t → have′ ≡ have → m′ ≡ m → ended ≡ endOf failed n
+    → TookRead h block waited n failed (heldOf u a b c d) (take have′ block′) (take m′ out) ended
+some-came a b c d block block′ out f e g i k = record { takes = rw (e, g, i) f; told = k }
 
 -- the program starts as a run, and goes on as one
 pub new-runs : {t : Tally} (a : List Float) (b c : List ℕ) (d : List Float) → t ≡ newOf 1 → Running (heldOf t a b c d) []
 new-runs a b c d e = rw e (record { given = []; printed = []; reached = starts })
 
-pub runs-on : {h : Held} {w : List ℕ} {h′ : Held} {w′ p : List ℕ} → Running h w → WentOn h w h′ w′ p → Running h′ w′
-runs-on {p} r t =
+-- the block after the read has the waiting bytes where they were
+pub runs-on : {h : Held} {w b : List ℕ} {waited n : ℕ} {failed : Bool} {h′ : Held} {w′ p : List ℕ} {ended : Bool} → Running h w
+    → take waited b ≡ w → TookRead h b waited n failed h′ w′ p ended → Running h′ w′
+runs-on {b} {waited} {n} {p} r e t =
     record {
-      given = r .given ++ t .came;
+      given = r .given ++ cameOf waited n b;
       printed = r .printed ++ p;
-      reached = t .takes .on (r .given) (r .printed) (r .reached);
+      reached = t .takes .on (r .given) (r .printed) (rw e (r .reached));
     }

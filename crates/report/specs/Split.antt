@@ -1,8 +1,10 @@
 -- Any split of the input: a run is given the bytes in pieces, as many and as long as they may be, and prints the report of the whole.
 use Prim.Native.Nat.{ℕ}
 use mathlib.Core.Path.{_≡_}
+use mathlib.Core.Bool.{Bool, not, _&&_}
 use mathlib.Core.List.{List, [], _∷_, _++_}
-use lib.ListN.{length}
+use lib.ListN.{length, take, drop}
+use lib.Dec.{eqb}
 use Rattle.places.specs.Stored.{joined}
 use Rattle.records.specs.declared.tally.Tally.{Tally}
 use Rattle.report.specs.Report.{Held, freshOf, after, linesOf, recordsOf, restOf, tailOf, reportOf}
@@ -62,10 +64,20 @@ pub record Finishes (t : Tally) (left : ℕ) (p : List ℕ) : Type 0 where
   pub whole : (given : List ℕ) (h : Held) (w printed : List ℕ) → h .tally ≡ t → length w ≡ left → Reached given h w printed
       → printed ++ p ≡ reportOf given
 
--- One read of the program takes some bytes, which are those that came; the record does not say which.
-pub record WentOn (h : Held) (w : List ℕ) (h′ : Held) (w′ p : List ℕ) : Type 0 where
-  pub came : List ℕ
-  pub takes : Takes h w came h′ w′ p
+-- ---- one read of the program
+-- the n bytes that came: a read left them in the block b, behind those that waited there
+abbrev pub cameOf : ℕ → ℕ → List ℕ → List ℕ
+cameOf waited n b = take n (drop waited b)
+
+-- the input has ended where a read that did not fail gave no byte
+abbrev pub endOf : Bool → ℕ → Bool
+endOf failed n = not failed && eqb n 0
+
+-- A read left the block b, with n bytes behind those that waited, or failed: a run takes the bytes that came, no more and no fewer, and the
+-- end of the input is told where it is.
+pub record TookRead (h : Held) (b : List ℕ) (waited n : ℕ) (failed : Bool) (h′ : Held) (w′ p : List ℕ) (ended : Bool) : Type 0 where
+  pub takes : Takes h (take waited b) (cameOf waited n b) h′ w′ p
+  pub told : ended ≡ endOf failed n
 
 -- The state is one that a run comes to: some bytes were given, and some lines are printed.
 pub record Running (h : Held) (w : List ℕ) : Type 0 where

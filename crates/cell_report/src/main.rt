@@ -2,10 +2,12 @@
 // error.
 ghost use Prim.Native.Nat.{_+_, _^_, _≤_, _<_};
 ghost use mathlib.Core.Path.{_≡_};
-ghost use lib.ListN.{length, take, drop};
+ghost use mathlib.Core.Bool.{true, false};
+ghost use lib.ListN.{length, take};
+ghost use Rattle.places.specs.Lent.{old, new};
 ghost use Rattle.records.specs.Tally.{Sized, Fits};
 ghost use Rattle.report.specs.Report.{heldOf};
-ghost use Rattle.report.specs.Split.{Takes, Running, WentOn};
+ghost use Rattle.report.specs.Split.{Takes, cameOf, TookRead};
 use records::tally::Tally;
 use report::stream::Fed;
 use report::stream::feed;
@@ -66,8 +68,8 @@ fn write_out(bytes: &[u8]) -> bool {
 // Reads once, behind the bytes that the block has already: these stay.
 fn read_more(block: &mut [u8], have: usize) -> Came
     requires { ⌜ have ≤ length (now block) ⌝ }
-    ensures { λ r. ⌜ (r .waited ≡ have) × (have + r .bytes ≤ length (now (block .entry))) ⌝ }
-    ensures { λ _. ⌜ take have (now (block .exit)) ≡ take have (now (block .entry)) ⌝ }
+    ensures { λ r. ⌜ (r .waited ≡ have) × (have + r .bytes ≤ length (old block)) × (r .failed ≡ true → r .bytes ≡ 0) ⌝ }
+    ensures { λ _. ⌜ take have (new block) ≡ take have (old block) ⌝ }
 {
     let got = libc::read(0, &mut block[have..]);
     let bytes = io::count(got, &block[have..]);
@@ -94,11 +96,11 @@ fn take_in(
     requires { ⌜ Fits t ⌝ }
     requires { ⌜ (t .number + 65536 < 2 ^ 64) × (came .waited + came .bytes ≤ length (now block))
         × (length (now block) ≡ 65536) × (524288 ≤ length (now out)) ⌝ }
-    ensures { λ d. ⌜ Fits (d .tally) × (d .tally .number ≤ t .number + 2048) × (d .have < 32) × (d .made ≤ length (now (out .entry))) ⌝ }
-    ensures { λ d. ⌜ Takes (heldOf t (now (coords .entry)) (now (corners .entry)) (now (ends .entry)) (now (queries .entry)))
-        (take (came .waited) (now (block .entry))) (take (came .bytes) (drop (came .waited) (now (block .entry))))
-        (heldOf (d .tally) (now (coords .exit)) (now (corners .exit)) (now (ends .exit)) (now (queries .exit)))
-        (take (d .have) (now (block .exit))) (take (d .made) (now (out .exit))) ⌝ }
+    ensures { λ d. ⌜ Fits (d .tally) × (d .tally .number ≤ t .number + 2048) × (d .have < 32) × (d .made ≤ length (old out)) ⌝ }
+    ensures { λ d. ⌜ Takes (heldOf t (old coords) (old corners) (old ends) (old queries))
+        (take (came .waited) (old block)) (cameOf (came .waited) (came .bytes) (old block))
+        (heldOf (d .tally) (new coords) (new corners) (new ends) (new queries))
+        (take (d .have) (new block)) (take (d .made) (new out)) ⌝ }
 {
     let total = came.waited + came.bytes;
     feed(t, total, block, coords, corners, ends, queries, out)
@@ -116,7 +118,7 @@ struct Went {
 
 // Nothing came: the input has ended, could not be read, or is to be read again.
 fn stayed(tally: Tally, have: usize, more: bool, ended: bool) -> Went
-    ensures { λ w. ⌜ (w .tally ≡ tally) × (w .have ≡ have) × (w .made ≡ 0) ⌝ }
+    ensures { λ w. ⌜ (w .tally ≡ tally) × (w .have ≡ have) × (w .made ≡ 0) × (w .ended ≡ ended) ⌝ }
 {
     Went {
         tally,
@@ -129,7 +131,7 @@ fn stayed(tally: Tally, have: usize, more: bool, ended: bool) -> Went
 
 // A read failed: it is tried again where that can help, and else it is said why it failed.
 fn after_failure(tally: Tally, have: usize) -> Went
-    ensures { λ w. ⌜ (w .tally ≡ tally) × (w .have ≡ have) × (w .made ≡ 0) ⌝ }
+    ensures { λ w. ⌜ (w .tally ≡ tally) × (w .have ≡ have) × (w .made ≡ 0) × (w .ended ≡ false) ⌝ }
 {
     let again = can_try_again();
     if !again {
@@ -140,7 +142,7 @@ fn after_failure(tally: Tally, have: usize) -> Went
 
 // What came was fed; it goes on where the output takes more.
 fn went_on(d: Fed, more: bool) -> Went
-    ensures { λ w. ⌜ (w .tally ≡ d .tally) × (w .have ≡ d .have) × (w .made ≡ d .made) ⌝ }
+    ensures { λ w. ⌜ (w .tally ≡ d .tally) × (w .have ≡ d .have) × (w .made ≡ d .made) × (w .ended ≡ false) ⌝ }
 {
     let tally = d.tally;
     Went {
@@ -152,13 +154,11 @@ fn went_on(d: Fed, more: bool) -> Went
     }
 }
 
-// Reads once, and writes the lines of the records that are whole. A failed read is not the end of the
-// input, and an output that takes no more ends the program.
-// The state before and after are those of a run, whose lines stand in `out`; no contract can say
-// that `read` gave the input's bytes, or what `write` wrote.
-fn read_once(
+// After a read: the bytes that it left in the block are taken, and the lines of the records that are whole are written. A failed read
+// is not the end of the input, and an output that takes no more ends the program.
+fn after_read(
     t: Tally,
-    have: usize,
+    came: Came,
     block: &mut [u8],
     coords: &mut [f64],
     corners: &mut [u32],
@@ -168,20 +168,20 @@ fn read_once(
 ) -> Went
     requires { ⌜ Sized (now coords) (now corners) (now ends) (now queries) ⌝ }
     requires { ⌜ Fits t ⌝ }
-    requires { ⌜ (t .number + 65536 < 2 ^ 64) × (have < 32) × (length (now block) ≡ 65536) × (524288 ≤ length (now out)) ⌝ }
-    requires { ⌜ Running (heldOf t (now coords) (now corners) (now ends) (now queries)) (take have (now block)) ⌝ }
+    requires { ⌜ (t .number + 65536 < 2 ^ 64) × (came .waited < 32) × (length (now block) ≡ 65536) × (524288 ≤ length (now out)) ⌝ }
+    requires { ⌜ (came .waited + came .bytes ≤ length (now block)) × (came .failed ≡ true → came .bytes ≡ 0) ⌝ }
     ensures { λ w. ⌜ Fits (w .tally) × (w .tally .number ≤ t .number + 2048) × (w .have < 32) ⌝ }
-    ensures { λ w. ⌜ WentOn (heldOf t (now (coords .entry)) (now (corners .entry)) (now (ends .entry)) (now (queries .entry)))
-        (take have (now (block .entry)))
-        (heldOf (w .tally) (now (coords .exit)) (now (corners .exit)) (now (ends .exit)) (now (queries .exit)))
-        (take (w .have) (now (block .exit))) (take (w .made) (now (out .exit))) ⌝ }
+    ensures { λ w. ⌜ TookRead (heldOf t (old coords) (old corners) (old ends) (old queries)) (old block)
+        (came .waited) (came .bytes) (came .failed)
+        (heldOf (w .tally) (new coords) (new corners) (new ends) (new queries)) (take (w .have) (new block)) (take (w .made) (new out))
+        (w .ended) ⌝ }
 {
-    let came = read_more(block, have);
+    let waited = came.waited;
     if came.failed {
-        return after_failure(t, have);
+        return after_failure(t, waited);
     }
     if came.bytes == 0 {
-        return stayed(t, have, false, true);
+        return stayed(t, waited, false, true);
     }
     let d = take_in(t, came, block, coords, corners, ends, queries, out);
     let made = d.made;
@@ -208,7 +208,8 @@ fn run(
     let mut ended = false;
     let mut reads = 1125899906842624u64;
     while more && reads > 0 {
-        let w = read_once(t, have, block, coords, corners, ends, queries, out);
+        let came = read_more(block, have);
+        let w = after_read(t, came, block, coords, corners, ends, queries, out);
         t = w.tally;
         have = w.have;
         more = w.more;

@@ -1,5 +1,5 @@
 -- `cell_report::run` meets its contract: every read starts as a run has it, and the reads that are left bound the cell's number.
-use mathlib.Core.Path.{_≡_, refl, sym, _∙_}
+use mathlib.Core.Path.{_≡_, refl, sym, ap, _∙_}
 use mathlib.Core.List.{List}
 use Prim.Native.Nat.{ℕ, _+_, _*_, _≤_, _<_}
 use native.Mathlib.Omega.{arith}
@@ -57,14 +57,24 @@ loop-holds c =
       running = new-runs (args .coords .now) (args .corners .now) (args .ends .now) (args .queries .now) (c .new .ensures);
     }
 
-read-once-requires : tie.Need-read-once-requires Inv-loop μ-loop
-read-once-requires c κs =
+after-read-requires : tie.Need-after-read-requires Inv-loop μ-loop
+after-read-requires c κs =
     let start : tie.Start Inv-loop μ-loop = search in
     let pre = start .pre in
     let record { before = _; loop = loop } : tie.At-loop Inv-loop μ-loop = search in
-    let i = loop .inv in (
+    let record { before = _; read-more = read } : tie.After-read-more Inv-loop μ-loop = search in
+    let i = loop .inv in
+    let came = read .ensures .0 in
+    let size = read .kept .0 in
+    let long = size ∙ i .for-block ∙ pre .1 .0 in (
       still-sized (pre .0) (i .for-coords) (i .for-corners) (i .for-ends) (i .for-queries),
-      (i .fits, ((omega (arith, i .number), i .small, i .for-block ∙ pre .1 .0, omega (arith, i .for-out, pre .1 .1)), i .running)),
+      (
+        i .fits,
+        (
+          (omega (arith, i .number), omega (arith, came .0, i .small), long, omega (arith, i .for-out, pre .1 .1)),
+          (omega (arith, came .0, came .1, size), came .2),
+        ),
+      ),
     )
 
 sub-reads : tie.Need-sub-reads Inv-loop μ-loop
@@ -79,16 +89,24 @@ loop-less c =
     let test : tie.Then1 Inv-loop μ-loop = search in
     omega (arith, ltb-true 0 (loop .reads) (test .if1 .taken))
 
+-- the read before what it gave is taken
+abbrev reading : tie.After-after-read Inv-loop μ-loop → tie.After-read-more Inv-loop μ-loop
+reading c = search
+
 loop-again : tie.Need-loop-again Inv-loop μ-loop
 loop-again c =
     let record { before = _; loop = loop } : tie.At-loop Inv-loop μ-loop = search in
     let test : tie.Then1 Inv-loop μ-loop = search in
-    let record { before = _; read-once = read-once } : tie.After-read-once Inv-loop μ-loop = search in
+    let after : tie.After-after-read Inv-loop μ-loop = search in
+    let after-read = after .after-read in
+    let read = reading after .read-more in
     let i = loop .inv in
-    let went = read-once .ensures .0 in
-    let kept = read-once .kept .1 .1 in
+    let went = after-read .ensures .0 in
+    let kept = after-read .kept .1 .1 in
+    let waits : take (read .result .waited) (read .last .0) ≡ take (loop .have) (loop .block) =
+    ap (λ (n : ℕ). take n (read .last .0)) (read .ensures .0 .0) ∙ read .ensures .1 in
     record {
-      for-block = kept .0 ∙ i .for-block;
+      for-block = kept .0 ∙ read .kept .0 ∙ i .for-block;
       for-coords = kept .1 .0 ∙ i .for-coords;
       for-corners = kept .1 .1 .0 ∙ i .for-corners;
       for-ends = kept .1 .1 .1 .0 ∙ i .for-ends;
@@ -97,7 +115,7 @@ loop-again c =
       fits = went .0;
       number = omega (arith, went .1, i .number, ltb-true 0 (loop .reads) (test .if1 .taken));
       small = went .2;
-      running = runs-on (i .running) (read-once .ensures .1);
+      running = runs-on (i .running) waits (after-read .ensures .1);
     }
 
 finish-requires : tie.Need-finish-requires Inv-loop μ-loop
@@ -130,7 +148,8 @@ run-spec =
     μ-loop
     (λ c κs. tt)
     loop-holds
-    read-once-requires
+    (λ c κs. search needs)
+    after-read-requires
     sub-reads
     loop-less
     loop-again

@@ -1,2 +1,5 @@
-pub mod Tested
+pub mod Evened
+pub mod Gap
+pub mod Linked
+pub mod Tallying
 pub mod Worked

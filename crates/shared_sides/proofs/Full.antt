@@ -18,7 +18,7 @@ use Rattle.exact.specs.Facing.{occurs, strange, doubled, unfit}
 use Rattle.exact.proofs.Conditions.{strange-is}
 use Rattle.side_table.specs.Table.{Blank}
 use Rattle.side_table.specs.Numbers.{Known, Numbering}
-use Rattle.side_table.proofs.Counted.{Both, all-both}
+use Rattle.side_table.proofs.Pairs.{Both, all-both}
 use Rattle.cell.specs.Faces.{facesOf}
 use Rattle.shared_sides.specs.Steps.{marksFrom, held, heldAt, Sane, Left, Ready, secondAt, lonely, lonelyFace, lonelyFaces, Pair}
 use Rattle.shared_sides.specs.Steps.{Mates}

@@ -19,7 +19,7 @@ use Rattle.exact.proofs.Balance.{and-comm}
 use Rattle.cell.specs.Faces.{facesFrom}
 use Rattle.cell.proofs.Faces.{faces-more, faces-none}
 use Rattle.side_table.specs.Numbers.{Known, entryOf}
-use Rattle.side_table.proofs.Counted.{Tells}
+use Rattle.side_table.proofs.Pairs.{Tells}
 use Rattle.shared_sides.specs.Steps.{markOf, markAt, marksIn, marksFrom, held, heldAt, Sane, Left, Ready}
 
 -- ---- the marks that two entries hold, and one more

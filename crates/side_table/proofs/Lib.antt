@@ -1,5 +1,5 @@
 pub mod Corners
-pub mod Counted
 pub mod Mentioned
 pub mod Numbers
-pub mod Room
+pub mod Pairs
+pub mod Zeros

@@ -14,7 +14,7 @@ use Rattle.places.specs.Lists.{Each}
 use Rattle.places.proofs.Loops.{Taking, take-start, take-next, take-end}
 use Rattle.side_table.specs.Numbers.{Known, unnamed, Numbering, mention, mentioned, Follows, Named, entryOf}
 use Rattle.side_table.proofs.Mentioned.{follows-still, follows-more, follows-nobody}
-use Rattle.side_table.proofs.Counted.{Tells}
+use Rattle.side_table.proofs.Pairs.{Tells}
 
 -- ---- one more has a number
 named-one : (number : List ℕ) (x w : ℕ) → x < length number → getD number x 0 ≡ 256 → w ≢ 256

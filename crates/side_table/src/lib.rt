@@ -1,13 +1,10 @@
 // Numbers for the vertices that occur in a corner list, in the order of first mention, and the side table: a row and a column for each
-// such vertex, and no others, in which the sides of faces are counted.
+// such vertex, and no others.
 ghost use mathlib.Core.Path.{_≡_};
 ghost use Prim.Native.Nat.{ℕ, _*_, _<_, _≤_};
-ghost use lib.ListN.{length};
 ghost use Rattle.places.specs.Limits.{mostVertices};
 ghost use Rattle.places.specs.Lists.{Each};
-ghost use Rattle.cell.specs.Faces.{facesOf};
-ghost use Rattle.side_table.specs.Table.{countSide, countFace, countFaces, Room};
-ghost use Rattle.side_table.specs.Numbers.{Known, Numbering, mentioned, Follows, Named, Numbered, entryOf};
+ghost use Rattle.side_table.specs.Numbers.{Known, Numbering, mentioned, Follows, Named, entryOf};
 
 // The vertex x gets the number k unless it has one. What comes back is how many have one now.
 fn number_vertex(number: &mut [u16], k: usize, x: usize) -> usize
@@ -44,48 +41,4 @@ pub fn entry(number: &[u16], k: usize, a: usize, b: usize) -> usize
     ensures { λ r. ⌜ (r ≡ entryOf (now (number .entry)) k a b) × (r < k * k) ⌝ }
 {
     number[a] as usize * k + number[b] as usize
-}
-
-// One more side, from a to b.
-pub fn count_side(table: &mut [u16], number: &[u16], k: usize, a: usize, b: usize)
-    requires { ⌜ Known (now number) k a × Known (now number) k b × (k ≤ mostVertices) ⌝ }
-    requires { ⌜ Room (k * k) 1 (now table) ⌝ }
-    ensures { λ _. ⌜ now (table .exit) ≡ countSide (entryOf (now (number .entry)) k) a b (now (table .entry)) ⌝ }
-{
-    let at = entry(number, k, a, b);
-    table[at] = table[at] + 1;
-}
-
-// The sides of a face.
-pub fn count_face(table: &mut [u16], number: &[u16], k: usize, face: &[u32])
-    requires { ⌜ Each 0 (Known (now number) k) (now face) × (k ≤ mostVertices) ⌝ }
-    requires { ⌜ Room (k * k) (length (now face)) (now table) ⌝ }
-    ensures { λ _. ⌜ now (table .exit) ≡ countFace (entryOf (now (number .entry)) k) (now (face .entry)) (now (table .entry)) ⌝ }
-{
-    let n = face.len();
-    let mut i = 0;
-    while i < n {
-        let a = places::corner(face, i);
-        let b = places::corner(face, places::next(i, n));
-        count_side(table, number, k, a, b);
-        i += 1;
-    }
-}
-
-// The sides of all faces.
-pub fn count_faces(table: &mut [u16], number: &[u16], k: usize, corners: &[u32], ends: &[u32])
-    requires { ⌜ Numbered (now number) k (now corners) (now ends) ⌝ }
-    requires { ⌜ Room (k * k) (length (now corners)) (now table) ⌝ }
-    ensures { λ _. ⌜ now (table .exit) ≡ countFaces (entryOf (now (number .entry)) k)
-        (facesOf (now (corners .entry)) (now (ends .entry))) (now (table .entry)) ⌝ }
-{
-    let n = ends.len();
-    let mut start = 0;
-    let mut j = 0;
-    while j < n {
-        let end = places::corner(ends, j);
-        count_face(table, number, k, cell::face(corners, start, end));
-        start = end;
-        j += 1;
-    }
 }

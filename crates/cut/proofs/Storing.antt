@@ -1,14 +1,19 @@
 -- A loop that stores an element at each place of a lent list: the list keeps its length, and what is left to store makes the whole.
--- And the lists that a face is cut in: the first places of two arrays.
-use mathlib.Core.Path.{_≡_, refl, sym}
+-- One that stores at each place its own number; and the lists that a face is cut in: the first places of two arrays.
+use mathlib.Core.Path.{_≡_, refl, sym, _∙_}
+use mathlib.Core.Bool.{Bool, true, false}
 use mathlib.Core.List.{List, [], _∷_}
 use Prim.Native.Nat.{ℕ, _+_, _-_, _<_, _≤_}
 use native.Mathlib.Omega.{arith}
+use borrow.Author.Tests.{eqb-true, eqb-false}
+use lib.Dec.{eqb}
 use lib.ListN.{length, getD, set, take, replicate, length-set}
+use lib.Seq.{getD-set-same, getD-set-other}
 use Rattle.places.specs.Steps.{removed}
 use Rattle.places.proofs.Folding.{Folding, fold-next, fold-end}
 use Rattle.places.proofs.Lists.{shift-removed, first-of}
 use Rattle.floats.specs.F64.{zero64}
+use Rattle.cut.specs.Steps.{InOrder}
 
 -- m places are in the list l; storing f at each place from i on, up to place n, makes it the whole
 pub record Storing {A : Type 0} (f : ℕ → List A → A) (n m : ℕ) (whole : List A) (i : ℕ) (l : List A) : Type 0 where
@@ -29,7 +34,30 @@ Removing d l₀ k j l = Storing (λ i s. getD s (i + 1) d) (length l₀ - 1) (le
 pub remove-start : {A : Type 0} (d : A) (l : List A) (k : ℕ) → k < length l → Removing d l k k l
 remove-start d l k h = record { long = refl; folding = record { within = omega arith; so = shift-removed d k l h } }
 
--- the first n places of an array of k numbers and of one of k points
+-- ---- each place gets its own number
+-- n places are in the list l, and those before i hold their own numbers
+pub record Ordering (n i : ℕ) (l : List ℕ) : Type 0 where
+  pub long : length l ≡ n
+  pub own : (k : ℕ) → k < i → getD l k 0 ≡ k
+
+pub order-start : {l : List ℕ} → Ordering (length l) 0 l
+order-start = record { long = refl; own = λ k h. absurd (omega arith) }
+
+module _ {n i : ℕ} {l : List ℕ} (q : Ordering n i l) where
+  pub order-next : i < n → Ordering n (i + 1) (set l i i)
+  order-next h = record { long = rw length-set (q .long); own = own }
+    where
+      own : (k : ℕ) → k < i + 1 → getD (set l i i) k 0 ≡ k
+      own k g = go (eqb k i) refl
+        where
+          go : (b : Bool) → eqb k i ≡ b → getD (set l i i) k 0 ≡ k
+          go true e = rw (eqb-true k i e) (getD-set-same l i i 0 (omega (arith, q .long)))
+          go false e = getD-set-other l i k i 0 (eqb-false k i e) ∙ q .own k (omega (arith, eqb-false k i e))
+
+  pub order-end : n ≤ i → InOrder l
+  order-end h k g = q .own k (omega (arith, q .long))
+
+-- ---- the first n places of an array of k places and of one of k points
 pub lent : (n k : ℕ) → n ≤ k
     → (length {A = ℕ} (take n (replicate k 0)) ≡ n) × (length (take n (replicate k (zero64 ∷ zero64 ∷ []))) ≡ n)
 lent n k h = (sym (first-of n k 0 h), sym (first-of n k (zero64 ∷ zero64 ∷ []) h))

@@ -1,10 +1,11 @@
 -- What functions below the gatehouse ask of and promise each other; no contract of a public entry speaks of these.
-use Prim.Native.Nat.{ℕ}
+use Prim.Native.Nat.{ℕ, _<_}
 use mathlib.Core.Path.{_≡_}
 use mathlib.Core.Bool.{Bool, true, false}
-use mathlib.Core.List.{List, _++_}
-use lib.ListN.{length, drop, set}
+use mathlib.Core.List.{List, [], _∷_, _++_, map}
+use lib.ListN.{length, getD, drop, set}
 use Rattle.flat.specs.Points.{Point}
+use Rattle.places.specs.Lists.{Each}
 use Rattle.places.specs.Steps.{removed}
 use Rattle.places.specs.Ring.{earOf}
 use Rattle.places.specs.declared.Found.{Found}
@@ -12,16 +13,34 @@ use Rattle.places.specs.declared.Found.the-variants.{At, Nothing}
 use Rattle.cut.specs.Cut.{Cut}
 use Rattle.cut.specs.declared.Counts.{Counts}
 
+-- ---- a ring that is kept as places of a face
+-- its corners: what stands at those places
+unfoldable pub ringAt : List ℕ → List ℕ → List ℕ
+ringAt face ks = map (λ k. getD face k 0) ks
+
+-- they are all places of the face
+abbrev pub Within : List ℕ → List ℕ → Type 0
+Within face ks = Each 0 (λ k. k < length face) ks
+
+-- the triangle of the corners at three places of a ring
+abbrev pub triangleAt : List ℕ → ℕ → ℕ → ℕ → List ℕ
+triangleAt ring i k j = getD ring i 0 ∷ getD ring k 0 ∷ getD ring j 0 ∷ []
+
+-- the places of a face in order: at each place of the list stands its own number
+abbrev pub InOrder : List ℕ → Type 0
+InOrder ks = (k : ℕ) → k < length ks → getD ks k 0 ≡ k
+
 -- ---- what the lent lists hold after a step and after a cut
 -- one step, by what was chosen: with nothing chosen all stays, else the triangle is at place t of `out` and the corner goes
 -- from both lists of the ring
-abbrev pub StepAt : Found → List ℕ → List Point → List (List ℕ) → ℕ → Bool → List ℕ → List Point → List (List ℕ) → Type 0
-StepAt Nothing ns ps out t r ns′ ps′ out′ = (r ≡ false) × (ns′ ≡ ns) × (ps′ ≡ ps) × (out′ ≡ out)
-StepAt (At k) ns ps out t r ns′ ps′ out′ = (r ≡ true) × (ns′ ≡ removed k ns) × (ps′ ≡ removed k ps) × (out′ ≡ set out t (earOf k ns))
+abbrev pub StepAt : List ℕ → Found → List ℕ → List Point → List (List ℕ) → ℕ → Bool → List ℕ → List Point → List (List ℕ) → Type 0
+StepAt face Nothing ks ps out t r ks′ ps′ out′ = (r ≡ false) × (ks′ ≡ ks) × (ps′ ≡ ps) × (out′ ≡ out)
+StepAt face (At k) ks ps out t r ks′ ps′ out′ =
+    (r ≡ true) × (ks′ ≡ removed k ks) × (ps′ ≡ removed k ps) × (out′ ≡ set out t (earOf k (ringAt face ks)))
 
-pub record Stepped (f : Found) (ns : List ℕ) (ps : List Point) (out : List (List ℕ)) (t : ℕ) (r : Bool)
-    (ns′ : List ℕ) (ps′ : List Point) (out′ : List (List ℕ)) : Type 0 where
-  pub did : StepAt f ns ps out t r ns′ ps′ out′
+pub record Stepped (face : List ℕ) (f : Found) (ks : List ℕ) (ps : List Point) (out : List (List ℕ)) (t : ℕ) (r : Bool)
+    (ks′ : List ℕ) (ps′ : List Point) (out′ : List (List ℕ)) : Type 0 where
+  pub did : StepAt face f ks ps out t r ks′ ps′ out′
 
 -- a cut: the counts are those of the triangles and of the corners left; the triangles stand at the front of `out`,
 -- and places after the last are as they were

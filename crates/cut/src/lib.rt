@@ -1,7 +1,7 @@
 // Cutting a face into triangles.
 ghost use mathlib.Core.Path.{_≡_};
 ghost use Prim.Native.Nat.{ℕ, _-_, _<_, _≤_};
-ghost use lib.ListN.{length, set};
+ghost use lib.ListN.{length, getD, set};
 ghost use Rattle.places.specs.Lent.{old, new};
 ghost use Rattle.places.specs.Limits.{mostCorners};
 ghost use Rattle.places.specs.Steps.{removed};
@@ -11,7 +11,7 @@ ghost use Rattle.flat.specs.Steps.{Inside};
 ghost use Rattle.next_corner.specs.NextCorner.{findCorner};
 ghost use Rattle.flat.specs.Flat.{pointsOf};
 ghost use Rattle.cut.specs.Cut.{cutIn, cutOf};
-ghost use Rattle.cut.specs.Steps.{Stepped, Shown};
+ghost use Rattle.cut.specs.Steps.{ringAt, triangleAt, Within, InOrder, Stepped, Shown};
 
 // How many triangles a cut gave, and how many corners of the ring it left (none where it came to its end).
 pub struct Counts {
@@ -19,15 +19,18 @@ pub struct Counts {
     pub left: usize,
 }
 
+// While a face is cut, the ring is kept as places of the face (ks) beside the points of its corners (ps). A place takes 16 bits, since a
+// face has at most 2,048 corners; nothing that is known here bounds the numbers of its vertices so.
+
 // What stands at place k goes, and what comes after it moves one place left.
-fn remove_number(ns: &mut [u32], k: usize)
-    requires { ⌜ k < length (now ns) ⌝ }
-    ensures { λ _. ⌜ new ns ≡ removed k (old ns) ⌝ }
+fn remove_place(ks: &mut [u16], k: usize)
+    requires { ⌜ k < length (now ks) ⌝ }
+    ensures { λ _. ⌜ new ks ≡ removed k (old ks) ⌝ }
 {
-    let last = ns.len() - 1;
+    let last = ks.len() - 1;
     let mut j = k;
     while j < last {
-        ns[j] = ns[j + 1];
+        ks[j] = ks[j + 1];
         j += 1;
     }
 }
@@ -44,82 +47,121 @@ fn remove_point(ps: &mut [[f64; 2]], k: usize)
     }
 }
 
-// The triangle at place k of the ring is written to place t, and the corner goes from both lists.
-fn cut_at(ns: &mut [u32], ps: &mut [[f64; 2]], k: usize, out: &mut [[u32; 3]], t: usize)
-    requires { ⌜ (k < length (now ns)) × (k < length (now ps)) × (t < length (now out)) ⌝ }
-    ensures numbers { λ _. ⌜ new ns ≡ removed k (old ns) ⌝ }
-    ensures points { λ _. ⌜ new ps ≡ removed k (old ps) ⌝ }
-    ensures written { λ _. ⌜ new out ≡ set (old out) t (earOf k (old ns)) ⌝ }
+// The corner at place i of the ring, and the triangle of those at three places.
+fn corner_at(face: &[u32], ks: &[u16], i: usize) -> u32
+    requires { ⌜ Within (now face) (now ks) × (i < length (now ks)) ⌝ }
+    ensures { λ r. ⌜ r ≡ getD (ringAt (old face) (old ks)) i 0 ⌝ }
 {
-    let n = ns.len();
+    face[ks[i] as usize]
+}
+
+fn triangle_at(face: &[u32], ks: &[u16], i: usize, k: usize, j: usize) -> [u32; 3]
+    requires { ⌜ Within (now face) (now ks) ⌝ }
+    requires { ⌜ (i < length (now ks)) × (k < length (now ks)) × (j < length (now ks)) ⌝ }
+    ensures { λ r. ⌜ r ≡ triangleAt (ringAt (old face) (old ks)) i k j ⌝ }
+{
+    [
+        corner_at(face, ks, i),
+        corner_at(face, ks, k),
+        corner_at(face, ks, j),
+    ]
+}
+
+// The triangle at place k of the ring is written to place t, and the corner goes from both lists.
+fn cut_at(
+    face: &[u32],
+    ks: &mut [u16],
+    ps: &mut [[f64; 2]],
+    k: usize,
+    out: &mut [[u32; 3]],
+    t: usize,
+)
+    requires { ⌜ Within (now face) (now ks) ⌝ }
+    requires { ⌜ (k < length (now ks)) × (k < length (now ps)) × (t < length (now out)) ⌝ }
+    ensures places { λ _. ⌜ new ks ≡ removed k (old ks) ⌝ }
+    ensures points { λ _. ⌜ new ps ≡ removed k (old ps) ⌝ }
+    ensures written { λ _. ⌜ new out ≡ set (old out) t (earOf k (ringAt (old face) (old ks))) ⌝ }
+{
+    let n = ks.len();
     let i = places::prev(k, n);
     let j = places::next(k, n);
-    let ear = [ns[i], ns[k], ns[j]];
+    let ear = triangle_at(face, ks, i, k, j);
     out[t] = ear;
-    remove_number(ns, k);
+    remove_place(ks, k);
     remove_point(ps, k);
 }
 
 // One cut, if there is a corner to cut.
-fn step(ns: &mut [u32], ps: &mut [[f64; 2]], dir: f64, out: &mut [[u32; 3]], t: usize) -> bool
-    requires { ⌜ (length (now ns) ≡ length (now ps)) × (t < length (now out)) ⌝ }
-    ensures { λ r. ⌜ Stepped (findCorner (old ps) dir) (old ns) (old ps) (old out) t r (new ns) (new ps) (new out) ⌝ }
+fn step(
+    face: &[u32],
+    ks: &mut [u16],
+    ps: &mut [[f64; 2]],
+    dir: f64,
+    out: &mut [[u32; 3]],
+    t: usize,
+) -> bool
+    requires { ⌜ Within (now face) (now ks) ⌝ }
+    requires { ⌜ (length (now ks) ≡ length (now ps)) × (t < length (now out)) ⌝ }
+    ensures { λ r. ⌜ Stepped (old face) (findCorner (old ps) dir) (old ks) (old ps) (old out) t r (new ks) (new ps) (new out) ⌝ }
 {
     let f = next_corner::find_corner(ps, dir);
     match f {
         places::Found::Nothing => false,
         places::Found::At(k) => {
-            cut_at(ns, ps, k, out, t);
+            cut_at(face, ks, ps, k, out, t);
             true
         }
     }
 }
 
-// The numbers of a face, and the points of a ring's corners, are laid down in lists of their own.
-fn fill_numbers(face: &[u32], ns: &mut [u32])
-    requires { ⌜ length (now ns) ≡ length (now face) ⌝ }
-    ensures { λ _. ⌜ new ns ≡ old face ⌝ }
+// The places of a face in order, and the points of its corners, are laid down in lists of their own.
+fn fill_places(ks: &mut [u16])
+    requires { ⌜ length (now ks) ≤ mostCorners ⌝ }
+    ensures { λ _. ⌜ InOrder (new ks) ⌝ }
 {
-    let n = face.len();
+    let n = ks.len();
     let mut i = 0;
     while i < n {
-        ns[i] = face[i];
+        ks[i] = i as u16;
         i += 1;
     }
 }
 
-fn fill_points(coords: &[f64], ring: &[u32], axis: usize, ps: &mut [[f64; 2]])
-    requires { ⌜ Inside (verticesOf (now coords)) (now ring) ⌝ }
-    requires { ⌜ length (now ps) ≡ length (now ring) ⌝ }
-    ensures { λ _. ⌜ new ps ≡ pointsOf (verticesOf (old coords)) axis (old ring) ⌝ }
+fn fill_points(coords: &[f64], face: &[u32], axis: usize, ps: &mut [[f64; 2]])
+    requires { ⌜ Inside (verticesOf (now coords)) (now face) ⌝ }
+    requires { ⌜ length (now ps) ≡ length (now face) ⌝ }
+    ensures { λ _. ⌜ new ps ≡ pointsOf (verticesOf (old coords)) axis (old face) ⌝ }
 {
-    let n = ring.len();
+    let n = face.len();
     let mut i = 0;
     while i < n {
-        let p = flat::space::point_at(coords, ring, axis, i);
+        let p = flat::space::point_at(coords, face, axis, i);
         ps[i] = p;
         i += 1;
     }
 }
 
-// A ring of three corners or more is cut. Its points are laid down in ps; ns and ps are used up.
+// A face of three corners or more is cut, seen along an axis. Its places and its points are laid down in ks and ps, which are used up.
 fn cut_ring(
     coords: &[f64],
+    face: &[u32],
     axis: usize,
-    ns: &mut [u32],
+    ks: &mut [u16],
     ps: &mut [[f64; 2]],
     out: &mut [[u32; 3]],
 ) -> Counts
-    requires { ⌜ Inside (verticesOf (now coords)) (now ns) ⌝ }
-    requires { ⌜ (length (now ps) ≡ length (now ns)) × (3 ≤ length (now ns)) × (length (now ns) - 2 ≤ length (now out)) ⌝ }
-    ensures { λ r. ⌜ Shown (cutIn (verticesOf (old coords)) axis (old ns)) r (old out) (new out) ⌝ }
+    requires { ⌜ Inside (verticesOf (now coords)) (now face) ⌝ }
+    requires { ⌜ (length (now ks) ≡ length (now face)) × (length (now ps) ≡ length (now face)) ⌝ }
+    requires { ⌜ (3 ≤ length (now face)) × (length (now face) ≤ mostCorners) × (length (now face) - 2 ≤ length (now out)) ⌝ }
+    ensures { λ r. ⌜ Shown (cutIn (verticesOf (old coords)) axis (old face)) r (old out) (new out) ⌝ }
 {
-    fill_points(coords, ns, axis, ps);
+    fill_places(ks);
+    fill_points(coords, face, axis, ps);
     let dir = next_corner::direction(ps);
-    let mut m = ns.len();
+    let mut m = face.len();
     let mut t = 0;
     while m > 3 {
-        if !step(&mut ns[..m], &mut ps[..m], dir, out, t) {
+        if !step(face, &mut ks[..m], &mut ps[..m], dir, out, t) {
             return Counts {
                 triangles: t,
                 left: m,
@@ -128,7 +170,7 @@ fn cut_ring(
         m -= 1;
         t += 1;
     }
-    let last = [ns[0], ns[1], ns[2]];
+    let last = triangle_at(face, ks, 0, 1, 2);
     out[t] = last;
     Counts {
         triangles: t + 1,
@@ -140,22 +182,56 @@ fn cut_ring(
 fn cut_in(
     coords: &[f64],
     face: &[u32],
-    ns: &mut [u32],
+    ks: &mut [u16],
     ps: &mut [[f64; 2]],
     out: &mut [[u32; 3]],
 ) -> Counts
     requires { ⌜ Inside (verticesOf (now coords)) (now face) ⌝ }
-    requires { ⌜ (length (now ns) ≡ length (now face)) × (length (now ps) ≡ length (now face))
-        × (3 ≤ length (now face)) × (length (now face) - 2 ≤ length (now out)) ⌝ }
+    requires { ⌜ (length (now ks) ≡ length (now face)) × (length (now ps) ≡ length (now face)) ⌝ }
+    requires { ⌜ (3 ≤ length (now face)) × (length (now face) ≤ mostCorners) × (length (now face) - 2 ≤ length (now out)) ⌝ }
     ensures { λ r. ⌜ Shown (cutOf (verticesOf (old coords)) (old face)) r (old out) (new out) ⌝ }
 {
     let axis = flat::dominant_axis(flat::space::face_normal(coords, face));
-    fill_numbers(face, ns);
-    cut_ring(coords, axis, ns, ps, out)
+    cut_ring(coords, face, axis, ks, ps, out)
+}
+
+// The same with lists of its own. One function a size: a small face does not clear the lists of a large one, and the stack holds those of
+// one size at a time.
+fn cut_16(coords: &[f64], face: &[u32], out: &mut [[u32; 3]]) -> Counts
+    requires { ⌜ Inside (verticesOf (now coords)) (now face) ⌝ }
+    requires { ⌜ (3 ≤ length (now face)) × (length (now face) ≤ 16) × (length (now face) - 2 ≤ length (now out)) ⌝ }
+    ensures { λ r. ⌜ Shown (cutOf (verticesOf (old coords)) (old face)) r (old out) (new out) ⌝ }
+{
+    let n = face.len();
+    let mut ks = [0u16; 16];
+    let mut ps = [[0.0f64; 2]; 16];
+    cut_in(coords, face, &mut ks[..n], &mut ps[..n], out)
+}
+
+fn cut_128(coords: &[f64], face: &[u32], out: &mut [[u32; 3]]) -> Counts
+    requires { ⌜ Inside (verticesOf (now coords)) (now face) ⌝ }
+    requires { ⌜ (3 ≤ length (now face)) × (length (now face) ≤ 128) × (length (now face) - 2 ≤ length (now out)) ⌝ }
+    ensures { λ r. ⌜ Shown (cutOf (verticesOf (old coords)) (old face)) r (old out) (new out) ⌝ }
+{
+    let n = face.len();
+    let mut ks = [0u16; 128];
+    let mut ps = [[0.0f64; 2]; 128];
+    cut_in(coords, face, &mut ks[..n], &mut ps[..n], out)
+}
+
+fn cut_2048(coords: &[f64], face: &[u32], out: &mut [[u32; 3]]) -> Counts
+    requires { ⌜ Inside (verticesOf (now coords)) (now face) ⌝ }
+    requires { ⌜ (3 ≤ length (now face)) × (length (now face) ≤ mostCorners) × (length (now face) - 2 ≤ length (now out)) ⌝ }
+    ensures { λ r. ⌜ Shown (cutOf (verticesOf (old coords)) (old face)) r (old out) (new out) ⌝ }
+{
+    let n = face.len();
+    let mut ks = [0u16; places::limits::MOST_CORNERS];
+    let mut ps = [[0.0f64; 2]; places::limits::MOST_CORNERS];
+    cut_in(coords, face, &mut ks[..n], &mut ps[..n], out)
 }
 
 // A face is cut: its triangles are written to the front of out. The answer says how many, and how many corners are left
-// if the cutting stopped short. The arrays for the ring are no larger than the work: clearing them stays small beside it.
+// if the cutting stopped short.
 pub fn cut(coords: &[f64], face: &[u32], out: &mut [[u32; 3]]) -> Counts
     requires { ⌜ Inside (verticesOf (now coords)) (now face) ⌝ }
     requires { ⌜ (length (now face) ≤ mostCorners) × (length (now face) - 2 ≤ length (now out)) ⌝ }
@@ -169,16 +245,10 @@ pub fn cut(coords: &[f64], face: &[u32], out: &mut [[u32; 3]]) -> Counts
         };
     }
     if n <= 16 {
-        let mut ns = [0u32; 16];
-        let mut ps = [[0.0f64; 2]; 16];
-        return cut_in(coords, face, &mut ns[..n], &mut ps[..n], out);
+        return cut_16(coords, face, out);
     }
     if n <= 128 {
-        let mut ns = [0u32; 128];
-        let mut ps = [[0.0f64; 2]; 128];
-        return cut_in(coords, face, &mut ns[..n], &mut ps[..n], out);
+        return cut_128(coords, face, out);
     }
-    let mut ns = [0u32; places::limits::MOST_CORNERS];
-    let mut ps = [[0.0f64; 2]; places::limits::MOST_CORNERS];
-    cut_in(coords, face, &mut ns[..n], &mut ps[..n], out)
+    cut_2048(coords, face, out)
 }

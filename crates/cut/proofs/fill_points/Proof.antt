@@ -1,4 +1,4 @@
--- `cut::fill_points` meets its contract: the points of the ring's corners stored at the places from i on make the list that of all its
+-- `cut::fill_points` meets its contract: the points of the face's corners stored at the places from i on make the list that of all its
 -- points.
 use Rattle.flat.specs.Points.{verticesOf}
 use Prim.Native.Nat.{_-_}
@@ -13,20 +13,20 @@ use Rattle.cut.proofs.fill_points.Statement.{statement}
 use Rattle.cut.proofs.fill_points.Tie as tie
 
 abbrev Inv-loop : tie.InvT-loop
-Inv-loop coords ring axis ps₀ n i₀ ps i =
-    let point = pointOf (verticesOf coords) axis in
-    Storing (λ k s. point (getD ring k 0)) n n (pointsOf (verticesOf coords) axis ring) i ps
+Inv-loop coords face axis ps₀ n i₀ ps i =
+    let at = pointOf (verticesOf coords) axis in
+    Storing (λ k s. at (getD face k 0)) n n (pointsOf (verticesOf coords) axis face) i ps
 
 abbrev μ-loop : tie.MeasureT-loop
-μ-loop coords ring axis ps₀ n i₀ ps i = n - i
+μ-loop coords face axis ps₀ n i₀ ps i = n - i
 
 loop-holds : tie.Need-loop-holds Inv-loop μ-loop
 unfolding pointsOf
 loop-holds c =
     let start : tie.Start Inv-loop μ-loop = search in
     let args = start .args in
-    let point = pointOf (verticesOf (args .coords .now)) (args .axis) in
-    record { long = start .pre .1; folding = fold-start (fill-map 0 point (args .ring .now) _ (start .pre .1)) }
+    let pointAt = pointOf (verticesOf (args .coords .now)) (args .axis) in
+    record { long = start .pre .1; folding = fold-start (fill-map 0 pointAt (args .face .now) _ (start .pre .1)) }
 
 loop-again : tie.Need-loop-again Inv-loop μ-loop
 loop-again c = store-next (c .before .before .loop .inv) (omega arith) (cc)

@@ -14,7 +14,7 @@ cut-at-requires c κs =
     let start : tie.Start = search in
     let args = start .args in
     let e : findCorner (args .ps .now) (args .dir) ≡ At (f .given .0 .0) = cc in
-    omega (arith, choose-below (args .ps .now) (args .dir) (f .given .0 .0) e)
+    (start .pre .0, omega (arith, choose-below (args .ps .now) (args .dir) (f .given .0 .0) e))
 
 none-found : tie.Need-returns
 none-found c =

@@ -1,21 +1,21 @@
--- `cut::remove_number` meets its contract: what stands one place further right, stored at the places from j up to the last, makes the list
+-- `cut::remove_place` meets its contract: what stands one place further right, stored at the places from j up to the last, makes the list
 -- without place k.
 use mathlib.Core.Path.{refl}
 use Prim.Native.Nat.{_-_}
 use native.Mathlib.Omega.{arith}
 use Rattle.cut.proofs.Storing.{Removing, remove-start, store-next, store-end}
 use borrow.Author.Needs.{needs}
-use Rattle.cut.proofs.remove_number.Statement.{statement}
-use Rattle.cut.proofs.remove_number.Tie as tie
+use Rattle.cut.proofs.remove_place.Statement.{statement}
+use Rattle.cut.proofs.remove_place.Tie as tie
 
 abbrev Inv-loop : tie.InvT-loop
-Inv-loop ns₀ k last j₀ ns j = Removing 0 ns₀ k j ns
+Inv-loop ks₀ k last j₀ ks j = Removing 0 ks₀ k j ks
 
 abbrev μ-loop : tie.MeasureT-loop
-μ-loop ns₀ k last j₀ ns j = last - j
+μ-loop ks₀ k last j₀ ks j = last - j
 
 loop-holds : tie.Need-loop-holds Inv-loop μ-loop
-loop-holds c = remove-start 0 (c .args .ns .now) (c .args .k) (search needs)
+loop-holds c = remove-start 0 (c .args .ks .now) (c .args .k) (search needs)
 
 loop-again : tie.Need-loop-again Inv-loop μ-loop
 loop-again c = store-next (c .before .before .loop .inv) (omega arith) refl
@@ -23,8 +23,8 @@ loop-again c = store-next (c .before .before .loop .inv) (omega arith) refl
 returns : tie.Need-returns Inv-loop μ-loop
 returns c = store-end (c .before .loop .inv) (omega arith)
 
-pub remove-number-spec : {M : Type 1} → statement M
-remove-number-spec =
+pub remove-place-spec : {M : Type 1} → statement M
+remove-place-spec =
     tie.close
     (tie.spec
     Inv-loop

@@ -30,7 +30,8 @@ flip a b = ring (a ∷ b ∷ []) (var 0 ⊕ ⊖ (var 1)) (⊖ (var 1 ⊕ ⊖ (va
 
 net-anti : (i j : ℕ) → Anti (net i j)
 net-anti i j u x =
-    rw (and-comm (eqb x i) (eqb u j), and-comm (eqb x j) (eqb u i)) (flip (pos (oneIf (fromTo i j (u, x)))) (pos (oneIf (fromTo j i (u, x)))))
+    rw (and-comm (eqb x i) (eqb u j), and-comm (eqb x j) (eqb u i))
+    (flip (pos (oneIf (fromTo i j (u, x)))) (pos (oneIf (fromTo j i (u, x)))))
 
 apart : (a b c d : ℤ) → (a -ℤ b) +ℤ (c -ℤ d) ≡ (a +ℤ c) -ℤ (b +ℤ d)
 apart a b c d = ring (a ∷ b ∷ c ∷ d ∷ []) ((var 0 ⊕ ⊖ (var 1)) ⊕ (var 2 ⊕ ⊖ (var 3))) ((var 0 ⊕ var 2) ⊕ ⊖ (var 1 ⊕ var 3)) tt

@@ -134,8 +134,8 @@ slice-aggregate-write-out c =
     let record { before = _; finish = finish } : tie.After-finish Inv-loop μ-loop = search in
     sym (length-take-le (finish .result) _ (omega (arith, finish .ensures .1 .0, finish .kept .1 .1 .0)))
 
-same-length-6 : tie.Need-same-length-6 Inv-loop μ-loop
-same-length-6 c =
+same-out : tie.Need-same-length-6 Inv-loop μ-loop
+same-out c =
     let record { before = _; finish = finish } : tie.After-finish Inv-loop μ-loop = search in
     let record { before = _; loop = loop } : tie.At-loop Inv-loop μ-loop = search in
     finish .kept .1 .1 .0 ∙ loop .inv .for-out
@@ -158,7 +158,7 @@ run-spec =
     slice-aggregate-write-out
     (λ c κs. tt)
     (λ c. search needs) (λ c. search needs) (λ c. search needs) (λ c. search needs) (λ c. search needs)
-    same-length-6
+    same-out
     (λ c. tt)
     (λ c. search needs) (λ c. search needs) (λ c. search needs) (λ c. search needs) (λ c. search needs) (λ c. search needs)
     (λ c. tt))

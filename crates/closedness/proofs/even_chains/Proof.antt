@@ -66,8 +66,8 @@ loop-again c =
           (level .no-gap) (loop .inv .3 l t),
     )
 
-returns-2 : tie.Need-returns-2 Inv-loop μ-loop
-returns-2 c l t = even-yes l (c .before .loop .inv .3 l t) (omega arith)
+all-even : tie.Need-returns-2 Inv-loop μ-loop
+all-even c l t = even-yes l (c .before .loop .inv .3 l t) (omega arith)
 
 pub even-chains-spec : {M : Type 1} → statement M
 even-chains-spec =
@@ -83,4 +83,4 @@ even-chains-spec =
     (λ c. search needs) (λ c. search needs)
     loop-again
     (λ c. omega arith)
-    returns-2)
+    all-even)

@@ -16,8 +16,8 @@ mark-runs-up-requires c κs =
     let start : tie.Start = search in
     rw (c .first-mark .ensures) (start .pre .1 .1 .first (c .before .if1 .left))
 
-mark-runs-up-requires-2 : tie.Need-mark-runs-up-requires-2
-mark-runs-up-requires-2 c κs =
+second-mark-known : tie.Need-mark-runs-up-requires-2
+second-mark-known c κs =
     let if1 = c .before .before .before .if1 in
     let start : tie.Start = search in
     rw (c .second-mark .ensures) (start .pre .1 .1 .second (if1 .left))
@@ -46,5 +46,5 @@ clash-side-spec =
     (λ c κs. search needs)
     mark-runs-up-requires
     (λ c κs. search needs)
-    mark-runs-up-requires-2
+    second-mark-known
     both-compared)

@@ -7,9 +7,9 @@ use borrow.Author.Needs.{needs}
 use Rattle.side_table.proofs.entry.Statement.{statement}
 use Rattle.side_table.proofs.entry.Tie as tie
 
-mul-result-2 : tie.Need-mul-result-2
+product-fits : tie.Need-mul-result-2
 unfolding entryOf
-mul-result-2 c =
+product-fits c =
     let pre = c .before .pre in
     omega (arith, entry-fits (pre .0) (pre .1) (pre .2))
 
@@ -32,7 +32,7 @@ entry-spec =
     tie.close
     (tie.spec
     (λ c. search needs) (λ c. search needs) (λ c. search needs)
-    mul-result-2
+    product-fits
     (λ c. search needs) (λ c. search needs) (λ c. search needs)
     add-result
     returns)

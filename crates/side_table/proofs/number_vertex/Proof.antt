@@ -17,8 +17,8 @@ cast-number c =
     let pre = start .pre in
     omega (arith, small (pre .0) (pre .1) (c .if1 .left))
 
-returns-2 : tie.Need-returns-2
-returns-2 c =
+newly-named : tie.Need-returns-2
+newly-named c =
     let start : tie.Start = search in
     let pre = start .pre in
     newly (pre .0) (pre .1) (c .if1 .left)
@@ -31,4 +31,4 @@ number-vertex-spec =
     returns
     cast-number
     (λ c. search needs) (λ c. search needs) (λ c. search needs) (λ c. search needs)
-    returns-2)
+    newly-named)

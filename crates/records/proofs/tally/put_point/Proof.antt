@@ -7,11 +7,11 @@ use borrow.Author.Needs.{needs}
 use Rattle.records.proofs.tally.put_point.Statement.{statement}
 use Rattle.records.proofs.tally.put_point.Tie as tie
 
-slice-write-list-2 : tie.Need-slice-write-list-2
-slice-write-list-2 c = simp length-set (omega arith)
+second-place : tie.Need-slice-write-list-2
+second-place c = simp length-set (omega arith)
 
-slice-write-list-3 : tie.Need-slice-write-list-3
-slice-write-list-3 c = simp length-set (omega arith)
+third-place : tie.Need-slice-write-list-3
+third-place c = simp length-set (omega arith)
 
 returns : tie.Need-returns
 returns c =
@@ -27,8 +27,8 @@ put-point-spec =
     tie.close
     (tie.spec
     (λ c κs. search needs) (λ c. search needs) (λ c. search needs) (λ c κs. search needs) (λ c. search needs) (λ c. search needs)
-    slice-write-list-2
+    second-place
     (λ c κs. search needs) (λ c. search needs) (λ c. search needs)
-    slice-write-list-3
+    third-place
     (λ c. search needs)
     returns)

@@ -1,25 +1,17 @@
 -- The whole number of an f64 is its value times 2 ^ 1074, sign and all, with nothing cut off.
 use mathlib.Core.Path.{_≡_, refl, sym, _∙_, ap}
-use mathlib.Core.Bool.{Bool, true, false, cond}
+use mathlib.Core.Bool.{Bool, true, false}
 use Prim.Native.Nat.{ℕ, zero, suc, _*_, _^_}
 use native.Mathlib.Nat.{zero-mul}
 use lib.Dec.{T}
-use lib.IntN.{ℤ, pos, negℤ, natAbs, _*ℤ_, zero-*ℤ, pos-*ℤ-pos, negsuc-*ℤ-pos}
+use lib.IntN.{pos, _*ℤ_, zero-*ℤ, pos-*ℤ-pos, negsuc-*ℤ-pos}
 use lib.Ieee.{Float, nan, inf, fin, Format, binary64, low, fits}
 use lib.Ieee.Exact.{HasValue}
-use Rattle.exact.specs.Scaled.{wholeUnits, exactIn, exactOf}
-use Rattle.exact.proofs.Scaled.{exact-size}
+use Rattle.exact.specs.Scaled.{wholeUnits, signed, exactIn, exactOf}
+use Rattle.exact.proofs.Scaled.{size-of, exact-size}
 use Rattle.demand3.specs.Demand3.{Exact}
 
--- n, less than 0 where s
-abbrev signed : Bool → ℕ → ℤ
-signed s n = cond s (negℤ (pos n)) (pos n)
-
-size-of : (s : Bool) (n : ℕ) → natAbs (signed s n) ≡ n
-size-of true zero = refl
-size-of true (suc n) = refl
-size-of false n = refl
-
+-- a product has the sign of its factor
 signed-times : (s : Bool) (n c : ℕ) → signed s n *ℤ pos c ≡ signed s (n * c)
 signed-times true zero c = zero-*ℤ (pos c) ∙ ap (signed true) (sym (zero-mul c))
 signed-times true (suc n) c = negsuc-*ℤ-pos n c

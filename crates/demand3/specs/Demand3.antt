@@ -2,16 +2,16 @@
 -- It holds of every cell, whatever its lists are, and speaks of the one cut that the contracts of `cut` and `volume` cite.
 use mathlib.Core.Path.{_≡_}
 use mathlib.Core.Logic.{_↔_}
-use mathlib.Core.Bool.{Bool, true, false, cond}
+use mathlib.Core.Bool.{Bool, true, false}
 use mathlib.Core.List.{List, [], _∷_, _++_}
 use Prim.Native.Nat.{ℕ, _+_, _*_, _^_, _<_, _≤_}
 use lib.Dec.{T}
 use lib.ListN.{length}
-use lib.IntN.{ℤ, pos, negℤ, _*ℤ_}
+use lib.IntN.{ℤ, pos, _*ℤ_}
 use lib.Ieee.{Float, binary64, fits}
 use lib.Ieee.Exact.{HasValue}
 use Rattle.places.specs.Lists.{Each}
-use Rattle.exact.specs.Scaled.{exactOf}
+use Rattle.exact.specs.Scaled.{signed, exactOf}
 use Rattle.exact.specs.Sides.{runs, Closed, closedOf}
 use Rattle.exact.specs.Space.{V3, plus, area, triples}
 use Rattle.flat.specs.Points.{Point, at, verticesOf, vertexOf}
@@ -105,8 +105,7 @@ pub record Reported (vs : List Point) (fs : List (List ℕ)) : Type 0 where
 -- here multiplied out
 abbrev pub Exact : Type 0
 Exact =
-    (x : Float) (s : Bool) (a c : ℕ) → T (fits binary64 x) → HasValue x s a c → exactOf x *ℤ pos c
-    ≡ cond s (negℤ (pos (a * 2 ^ 1074))) (pos (a * 2 ^ 1074))
+    (x : Float) (s : Bool) (a c : ℕ) → T (fits binary64 x) → HasValue x s a c → exactOf x *ℤ pos c ≡ signed s (a * 2 ^ 1074)
 
 -- ---- what later requests use
 -- the ring that remains makes up the difference between a face and its triangles

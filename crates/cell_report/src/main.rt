@@ -118,7 +118,7 @@ struct Went {
 
 // Nothing came: the input has ended, could not be read, or is to be read again.
 fn stayed(tally: Tally, have: usize, more: bool, ended: bool) -> Went
-    ensures { λ w. ⌜ (w .tally ≡ tally) × (w .have ≡ have) × (w .made ≡ 0) × (w .ended ≡ ended) ⌝ }
+    ensures { λ w. ⌜ (w .tally ≡ tally) × (w .have ≡ have) × (w .made ≡ 0) × (w .ended ≡ ended) × (w .more ≡ more) ⌝ }
 {
     Went {
         tally,
@@ -142,7 +142,7 @@ fn after_failure(tally: Tally, have: usize) -> Went
 
 // What came was fed; it goes on where the output takes more.
 fn went_on(d: Fed, more: bool) -> Went
-    ensures { λ w. ⌜ (w .tally ≡ d .tally) × (w .have ≡ d .have) × (w .made ≡ d .made) × (w .ended ≡ false) ⌝ }
+    ensures { λ w. ⌜ (w .tally ≡ d .tally) × (w .have ≡ d .have) × (w .made ≡ d .made) × (w .ended ≡ false) × (w .more ≡ more) ⌝ }
 {
     let tally = d.tally;
     Went {

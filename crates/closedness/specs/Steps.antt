@@ -1,5 +1,5 @@
 -- What functions below the gatehouse ask of and promise each other; no contract of a public entry speaks of these.
--- Here the chains of sides: for each vertex one of the sides that have it as their lower end, and the tally that is kept along a chain.
+-- Here the chains of sides, for each vertex a chain of the sides that have it as their lower end, and the tally that is kept along a chain.
 use mathlib.Core.Path.{_≡_}
 use mathlib.Core.Logic.{_≢_}
 use mathlib.Core.Bool.{Bool, true, false, not, _&&_, cond}
@@ -39,7 +39,8 @@ times c [] = 0
 times c (x ∷ cs) = oneIf (eqb x c) + times c cs
 
 -- ---- chains
--- the chain that starts at h has these codes: 0 is its end, and h stands for the place before h, with its code and where the chain goes on
+-- the chain that starts at h has these codes: 0 is its end, and an h above 0 stands for the place h - 1, which has its code and where the
+-- chain goes on
 abbrev pub Chain : List ℕ → List ℕ → ℕ → List ℕ → Type 0
 Chain next other h [] = h ≡ 0
 Chain next other h (c ∷ cs) = (0 < h) × (getD other (h - 1) 0 ≡ c) × Chain next other (getD next (h - 1) 0) cs
@@ -117,7 +118,8 @@ pub record Uneven (l : List (ℕ × ℕ)) : Type 0 where
   pub below : j < mostVertices
   pub differ : times j (codesAt m l) ≢ times (j + 256) (codesAt m l)
 
--- the answer r says whether the chains of the vertices below v have
+-- r is yes only where, in the chain of every vertex below v, as many sides run up to each j as down from it, and no only where some chain
+-- has not
 pub record Even (v : ℕ) (l : List (ℕ × ℕ)) (r : Bool) : Type 0 where
   pub yes : r ≡ true → (m j : ℕ) → m < v → j < mostVertices → times j (codesAt m l) ≡ times (j + 256) (codesAt m l)
   pub no : r ≡ false → Uneven l

@@ -28,7 +28,7 @@ steps (a ∷ b ∷ ps) = (a, b) ∷ steps (b ∷ ps)
 unfoldable pub addFan : Point → Point → Point → Point → Float → Float
 addFan ref p a b v = v +f tripleOf (minusOf 3 p ref) (minusOf 3 a ref) (minusOf 3 b ref)
 
--- the triangles from the first point of an outline to each of its other sides, summed, over 6
+-- the triangles from the first point of an outline to each side that does not touch it, summed, over 6
 unfoldable pub contributionOf : Point → List Point → Float
 contributionOf ref [] = zero64 /f six64
 contributionOf ref (p ∷ ps) = foldPairs (addFan ref p) (steps ps) zero64 /f six64

@@ -69,7 +69,7 @@ linesOf h [] = []
 linesOf h (r ∷ rs) = saysOf h r ++ linesOf (recordTaken h r) rs
 
 -- ---- the bytes
--- the whole records of the bytes s, where the bytes w wait before them: with its 32nd byte a record is whole
+-- the whole records of the bytes s, where the bytes w, fewer than 32, wait before them: with its 32nd byte a record is whole
 unfoldable pub recordsFrom : List ℕ → List ℕ → List Rec
 recordsFrom w [] = []
 recordsFrom w (b ∷ s) =

@@ -1,4 +1,4 @@
--- A table of sides before a side is entered.
+-- A list of marks or counts before anything is entered.
 use mathlib.Core.List.{List}
 use Prim.Native.Nat.{ℕ, _≤_}
 use lib.ListN.{getD}

@@ -36,6 +36,11 @@
  * number in both is +0, save the outline that clipping shows at the front of one. Room is short when a face or
  * subject to be clipped, or an outline on the way, has more points than the shorter of the two holds; 3,072
  * numbers each is the most that may be lent.
+ *
+ * Stack. Nothing is allocated; a call works on the stack, at its largest inputs with at most 133,000 bytes in
+ * turn_faces, 63,000 in volume, geometric_centroid and survey, 38,000 in triangles, 26,000 in
+ * convex_intersection_volume, 12,000 in closed, and 1,000 in every other. It is measured (tests/stack), not
+ * proved.
  */
 #ifndef WEGRUSAMT_H
 #define WEGRUSAMT_H

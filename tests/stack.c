@@ -1,4 +1,4 @@
-/* How much stack the calls take that take most, at their largest inputs: each runs on a stack of its own that was painted before, and what
+/* How much stack each C name takes, at its largest inputs: it runs on a stack of its own that was painted before, and what
  * is no longer painted was used. Prints a line a call, and ends with 1 where a call takes more than include/wegrusamt.h says.
  * tests/stack builds and runs it. */
 #include <stdio.h>
@@ -60,6 +60,34 @@ static void turn_faces(void) { code = wegrusamt_turn_faces(TORUS, counts, 4); }
 static void plane_of_face(void) { code = wegrusamt_plane_of_face(ONE, 0, out, 8); }
 static void clip_face(void) { code = wegrusamt_clip_face(TORUS, 17, planes, 1024, 0, first, 3072, second, 3072, counts, 4); }
 static void clip_convex(void) { code = wegrusamt_clip_convex(plane, 1024, plane, 1024, first, 3072, second, 3072, counts, 4); }
+static void centroid(void) { code = wegrusamt_centroid(WIDE, out, 8); }
+static void bounds(void) { code = wegrusamt_bounds(WIDE, out, 8); }
+static void scale(void) { code = wegrusamt_scale(WIDE, out, 8); }
+static void describe(void) { code = wegrusamt_describe(WIDE, 2, counts, 4); }
+static void area(void) { code = wegrusamt_convex_intersection_area(plane, 1024, plane, 1024, first, 3072, second, 3072, out, 8); }
+static void newell_normal(void) { code = wegrusamt_newell_normal(coords, 768, out, 8); }
+static void vertex_centroid(void) { code = wegrusamt_vertex_centroid(coords, 768, out, 8); }
+static void list_bounds(void) { code = wegrusamt_list_bounds(coords, 768, out, 8); }
+static void signed_area2(void) { code = wegrusamt_signed_area2(plane, 1024, out, 8); }
+static void vertex_centroid2(void) { code = wegrusamt_vertex_centroid2(plane, 1024, out, 8); }
+static void bounds2(void) { code = wegrusamt_bounds2(plane, 1024, out, 8); }
+static void into_ccw2(void) { code = wegrusamt_into_ccw2(plane, 1024); }
+static void tet_volume(void) { code = wegrusamt_tet_volume(coords, 12, out, 8); }
+static void wedge_volume(void) { code = wegrusamt_wedge_volume(coords, 18, out, 8); }
+static void hex_volume(void) { code = wegrusamt_hex_volume(coords, 24, out, 8); }
+static void tet_contains(void) { code = wegrusamt_tet_contains(coords, 12, 1, 2, 3, counts, 4); }
+static void wedge_contains(void) { code = wegrusamt_wedge_contains(coords, 18, 1, 2, 3, counts, 4); }
+static void hex_contains(void) { code = wegrusamt_hex_contains(coords, 24, 1, 2, 3, counts, 4); }
+static void project2(void) { code = wegrusamt_project2(1, 2, 3, 1, out, 8); }
+static void segment_intersection(void) { code = wegrusamt_segment_intersection(0, 0, 1, 1, 0, 1, 1, 0, out, 8); }
+static void segment_plane(void) { code = wegrusamt_segment_plane_intersection(0, 0, 0, 1, 1, 1, -1, 1, out, 8); }
+/* the leaves that return their answer: no code */
+static void leaves(void) {
+    out[0] = wegrusamt_cross2(0, 0, 1, 0, 0, 1) + (double)wegrusamt_dominant_axis(1, 2, 3) + wegrusamt_plane_same_side(1, 0, 0, 1, 1, 0, 0, 1, 0)
+        + wegrusamt_plane_coplanar_opposite(1, 0, 0, 1, -1, 0, 0, -1, 0) + wegrusamt_magnitude(-2) + wegrusamt_least(1, 2)
+        + wegrusamt_largest(1, 2) + wegrusamt_root(2) + wegrusamt_length(3, 4) + wegrusamt_of_pattern(wegrusamt_pattern(5));
+    code = 0;
+}
 static void overlap(void) {
     code = wegrusamt_convex_intersection_volume(TORUS, far_coords, 3 * VERTICES, torus, 4 * VERTICES, torus_ends, VERTICES, first, 3072,
                                                 second, 3072, out, 8);
@@ -87,6 +115,13 @@ int main(void) {
         {"turn_faces", turn_faces, 133000}, {"convex_intersection_volume", overlap, 26000}, {"contains", contains, 1000},
         {"point_in_phed", in_phed, 1000}, {"is_convex", is_convex, 1000}, {"into_ccw", into_ccw, 1000},
         {"plane_of_face", plane_of_face, 1000}, {"clip_face", clip_face, 1000}, {"clip_convex", clip_convex, 1000},
+        {"convex_intersection_area", area, 1000}, {"centroid", centroid, 1000}, {"bounds", bounds, 1000}, {"scale", scale, 1000},
+        {"describe", describe, 1000}, {"newell_normal", newell_normal, 1000}, {"vertex_centroid", vertex_centroid, 1000},
+        {"list_bounds", list_bounds, 1000}, {"signed_area2", signed_area2, 1000}, {"vertex_centroid2", vertex_centroid2, 1000},
+        {"bounds2", bounds2, 1000}, {"into_ccw2", into_ccw2, 1000}, {"tet_volume", tet_volume, 1000},
+        {"wedge_volume", wedge_volume, 1000}, {"hex_volume", hex_volume, 1000}, {"tet_contains", tet_contains, 1000},
+        {"wedge_contains", wedge_contains, 1000}, {"hex_contains", hex_contains, 1000}, {"project2", project2, 1000},
+        {"segment_intersection", segment_intersection, 1000}, {"segment_plane_intersection", segment_plane, 1000}, {"leaves", leaves, 1000},
     };
     int over = 0;
     stack = malloc(SIZE);

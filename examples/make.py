@@ -90,7 +90,10 @@ EXAMPLES = {
     ),
     "thin-and-far": (
         "A box of 0.05 x 0.25 x 2 far from the origin, of which one face gives no triangle, so that a sixth of\n"
-        "the volume is missing; and the same box moved by whole numbers, exactly, to the origin (docs/LIMITS.md).",
+        "the volume is missing; and the same box as `to_local` leaves it, with (8588590, 8529546, 2969498)\n"
+        "taken off every vertex, exactly. What to do with a cell whose line says `short 1` or more: move its\n"
+        "vertices by `to_local`, and its query points with them, and have it surveyed again; if it is still short,\n"
+        "trace the face as triangles (docs/LIMITS.md; examples/local.c does the move).",
         [
             (THIN, HEX8_FACES, []),
             (moved(THIN, [-x for x in THIN_AT]), HEX8_FACES, []),

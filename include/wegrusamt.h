@@ -24,6 +24,7 @@
  *  11 sides   a side between two different vertices, taken without direction, does not occur exactly twice over
  *             all faces, or a face holds a vertex twice (turning of backward faces only)
  *  12 choice  no choice of faces to reverse closes the cell (turning of backward faces only)
+ *  15 inexact a coordinate less the local origin is not a double (to_local only)
  *   6 room    a list that is written to is too short
  * The first that applies is returned: in this order, and for two cells 1 to 5 of the first, then of the second,
  * then 6. Work lists and query values are judged with the first cell's 1 and 2.
@@ -166,12 +167,19 @@ uint8_t wegrusamt_convex_intersection_area(const double *subject, size_t subject
                                            size_t clip_len, double *first, size_t first_len, double *second,
                                            size_t second_len, double *out, size_t out_len);
 
-/* ---- lists of points: refusals 1 and 2, and 6 ---- */
+/* ---- lists of points: refusals 1 and 2 (to_local: then 15), and 6 ---- */
 
 /* Of space: the Newell sums, the mean, the box (least x, y, z, largest x, y, z). out: 3, 3 and 6 numbers. */
 uint8_t wegrusamt_newell_normal(const double *coords, size_t coords_len, double *out, size_t out_len);
 uint8_t wegrusamt_vertex_centroid(const double *coords, size_t coords_len, double *out, size_t out_len);
 uint8_t wegrusamt_list_bounds(const double *coords, size_t coords_len, double *out, size_t out_len);
+
+/* Moves the vertices of a cell to a local origin, in their own list: takes one vector of whole numbers off each, the
+ * first vertex's coordinates brought to whole numbers towards zero. Every difference is exact, so a cell keeps its
+ * exact volume over the same triangles (docs/LIMITS.md); where one would be rounded the call is refused by 15, after
+ * 1 and 2, and the list is as it was. Of a list wider than 2^40 a moved number can be above 2^40, and calls then
+ * refuse it by 2. out: the vector x, y, z. */
+uint8_t wegrusamt_to_local(double *coords, size_t coords_len, double *out, size_t out_len);
 
 /* Of the plane: the signed area, the mean, the box (least x, y, largest x, y). out: 1, 2 and 4 numbers. No points
  * have the area 0, a mean of NaN, and a box from +infinity to -infinity. */

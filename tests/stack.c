@@ -12,6 +12,7 @@ enum { SIZE = 1 << 20, PAINT = 0xA5, RING = 16, VERTICES = RING * RING, MOST = 2
 static unsigned char *stack;
 static ucontext_t back, there;
 static double coords[3 * VERTICES], far_coords[3 * VERTICES], queries[768], first[3072], second[3072], planes[1024], plane[1024];
+static double to_move[3 * VERTICES];
 static uint32_t torus[4 * VERTICES], torus_ends[VERTICES], wide[MOST], wide_ends[VERTICES], one[MOST], one_end[1], marked[2304];
 static uint32_t triangles[MOST][3];
 static double out[8];
@@ -34,6 +35,7 @@ static void make_cells(void) {
             for (int k = 0; k < 4; k++) wide[8 * v + k] = wide[8 * v + 7 - k] = face[k];
             wide_ends[v] = 8 * (v + 1);
         }
+    for (int k = 0; k < 3 * VERTICES; k++) to_move[k] = coords[k] + 4000000;
     for (int k = 0; k < MOST; k++) one[k] = k % VERTICES;
     one_end[0] = MOST;
     for (int k = 0; k < 2304; k++) marked[k] = k % 9 == 8 ? UINT32_MAX : (uint32_t)(k % VERTICES);
@@ -68,6 +70,7 @@ static void area(void) { code = wegrusamt_convex_intersection_area(plane, 1024, 
 static void newell_normal(void) { code = wegrusamt_newell_normal(coords, 768, out, 8); }
 static void vertex_centroid(void) { code = wegrusamt_vertex_centroid(coords, 768, out, 8); }
 static void list_bounds(void) { code = wegrusamt_list_bounds(coords, 768, out, 8); }
+static void to_local(void) { code = wegrusamt_to_local(to_move, 3 * VERTICES, out, 8); }
 static void signed_area2(void) { code = wegrusamt_signed_area2(plane, 1024, out, 8); }
 static void vertex_centroid2(void) { code = wegrusamt_vertex_centroid2(plane, 1024, out, 8); }
 static void bounds2(void) { code = wegrusamt_bounds2(plane, 1024, out, 8); }
@@ -117,9 +120,10 @@ int main(void) {
         {"plane_of_face", plane_of_face, 1000}, {"clip_face", clip_face, 1000}, {"clip_convex", clip_convex, 1000},
         {"convex_intersection_area", area, 1000}, {"centroid", centroid, 1000}, {"bounds", bounds, 1000}, {"scale", scale, 1000},
         {"describe", describe, 1000}, {"newell_normal", newell_normal, 1000}, {"vertex_centroid", vertex_centroid, 1000},
-        {"list_bounds", list_bounds, 1000}, {"signed_area2", signed_area2, 1000}, {"vertex_centroid2", vertex_centroid2, 1000},
-        {"bounds2", bounds2, 1000}, {"into_ccw2", into_ccw2, 1000}, {"tet_volume", tet_volume, 1000},
-        {"wedge_volume", wedge_volume, 1000}, {"hex_volume", hex_volume, 1000}, {"tet_contains", tet_contains, 1000},
+        {"list_bounds", list_bounds, 1000}, {"to_local", to_local, 1000}, {"signed_area2", signed_area2, 1000},
+        {"vertex_centroid2", vertex_centroid2, 1000}, {"bounds2", bounds2, 1000}, {"into_ccw2", into_ccw2, 1000},
+        {"tet_volume", tet_volume, 1000}, {"wedge_volume", wedge_volume, 1000}, {"hex_volume", hex_volume, 1000},
+        {"tet_contains", tet_contains, 1000},
         {"wedge_contains", wedge_contains, 1000}, {"hex_contains", hex_contains, 1000}, {"project2", project2, 1000},
         {"segment_intersection", segment_intersection, 1000}, {"segment_plane_intersection", segment_plane, 1000}, {"leaves", leaves, 1000},
     };

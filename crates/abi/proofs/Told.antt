@@ -1,22 +1,24 @@
 -- What a caller across the boundary is told, from what an entry answers and what is put into the lent lists.
 use mathlib.Core.Path.{_≡_, refl, sym, _∙_, ap}
 use mathlib.Core.Logic.{_≢_}
-use mathlib.Core.Bool.{Bool, true, false}
+use mathlib.Core.Bool.{true, false}
 use mathlib.Core.List.{List, [], _∷_}
 use Prim.Native.Nat.{ℕ, _≤_, _<_}
 use native.Mathlib.Omega.{arith}
-use lib.Dec.{ltb, eqb}
 use lib.ListN.{length}
 use lib.Ieee.{Float}
 use borrow.Author.Tests.{eq-eqb, ne-eqb, lt-ltb, le-ltb}
 use Rattle.geometry.specs.declared.Number.{Number}
 use Rattle.geometry.specs.declared.Count.{Count}
+use Rattle.geometry.specs.declared.Place.{Place}
 use Rattle.geometry.specs.declared.Done.{Done}
 use Rattle.geometry.specs.declared.Clipped.{Clipped}
 use Rattle.geometry.specs.Cells.{trianglesAnswer}
+use Rattle.geometry.specs.Points.{toLocalAnswer, localOriginAnswer}
+use Rattle.geometry.proofs.Answers.{origin-alike}
 use Rattle.geometry.specs.TurnFaces.{canTurnAnswer, TurnFacesGives}
 use Rattle.geometry.specs.Listed.{Listed, Reply, told, written, ofNumber, ofCount, ofDone, doneTold, ofShape, clippingTold, measureTold}
-use Rattle.geometry.specs.Listed.{trianglesTold, codeWithoutRoom, TurnFacesTold}
+use Rattle.geometry.specs.Listed.{ofPlace, trianglesTold, toLocalTold, codeWithoutRoom, TurnFacesTold}
 
 -- ---- beside the work lists
 pub shown-by : {c d : Clipped × List Float × List Float} → c ≡ d → (shown : List ℕ) {t : ℕ × List ℕ × List Float × List Float}
@@ -61,6 +63,17 @@ module _ (coords : List Float) (corners ends : List ℕ) (k : ℕ) (out : List (
       → (a, out′) ≡ trianglesAnswer coords corners ends k out → told r [] count′ ≡ written (ofCount a) [] count
       → (r, out′, count′) ≡ trianglesTold coords corners ends k out count
   triangles-long count h e p = rw (le-ltb (length count) 1 h, ← e, ap (λ (t : Reply). t .0) p, ap (λ (t : Reply). t .2) p)
+
+-- ---- vertices moved to a local origin: where there is no room for the vector the entry that only asks answers alike
+module _ (coords out : List Float) where
+  pub local-short : {a : Place} {r : ℕ} {out′ : List Float} → length out < 3 → a ≡ localOriginAnswer coords
+      → told r out′ [] ≡ written (ofPlace a) out [] → (r, coords, out′) ≡ toLocalTold coords out
+  local-short h e p =
+      rw (lt-ltb (length out) 3 h, ← origin-alike coords, ← e, ap (λ (t : Reply). t .0) p, ap (λ (t : Reply). t .1) p)
+
+  pub local-long : {a : Place} {r : ℕ} {coords′ out′ : List Float} → 3 ≤ length out → (a, coords′) ≡ toLocalAnswer coords
+      → told r out′ [] ≡ written (ofPlace a) out [] → (r, coords′, out′) ≡ toLocalTold coords out
+  local-long h e p = rw (le-ltb (length out) 3 h, ← e, ap (λ (t : Reply). t .0) p, ap (λ (t : Reply). t .1) p)
 
 -- ---- backward faces
 module _ (coords : List Float) (corners ends out : List ℕ) where

@@ -4,7 +4,7 @@ ghost use mathlib.Core.List.{[]};
 ghost use Rattle.places.specs.Lent.{old, new};
 ghost use Rattle.geometry.specs.Points.{newellNormalAnswer, vertexCentroidAnswer, listBoundsAnswer};
 ghost use Rattle.geometry.specs.Points.{signedArea2Answer, vertexCentroid2Answer, bounds2Answer, intoCcw2Answer};
-ghost use Rattle.geometry.specs.Listed.{told, written, ofNumber, ofPlace, ofExtent, ofPlanePlace, ofPlaneExtent, doneTold};
+ghost use Rattle.geometry.specs.Listed.{told, written, ofNumber, ofPlace, ofExtent, ofPlanePlace, ofPlaneExtent, doneTold, toLocalTold};
 
 #[no_mangle]
 pub extern "C" fn wegrusamt_newell_normal(coords: &[f64], out: &mut [f64]) -> u8
@@ -25,6 +25,18 @@ pub extern "C" fn wegrusamt_list_bounds(coords: &[f64], out: &mut [f64]) -> u8
     ensures { λ r. ⌜ told r (new out) [] ≡ written (ofExtent (listBoundsAnswer (old coords))) (old out) [] ⌝ }
 {
     answer_lists::put_extent(geometry::in_space::list_bounds(coords), out)
+}
+
+// Three numbers: the vector by which the vertices were moved. Where `out` has no room for it only the refusal is asked for, and the
+// vertices stay where they were.
+#[no_mangle]
+pub extern "C" fn wegrusamt_to_local(coords: &mut [f64], out: &mut [f64]) -> u8
+    ensures { λ r. ⌜ (r, new coords, new out) ≡ toLocalTold (old coords) (old out) ⌝ }
+{
+    if out.len() < 3 {
+        return answer_lists::put_place(geometry::in_space::local_origin(coords), out);
+    }
+    answer_lists::put_place(geometry::in_space::to_local(coords), out)
 }
 
 #[no_mangle]

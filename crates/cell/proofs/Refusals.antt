@@ -1,21 +1,23 @@
 -- The rows of a refusal table one after the other, for every function that answers with one; and what is known of a cell that no row
 -- refuses, for everybody who is given such a cell.
 use mathlib.Core.Path.{_≡_, refl, sym}
-use mathlib.Core.Bool.{Bool, true, false, not, _||_, cond}
+use mathlib.Core.Bool.{Bool, true, false, not, _&&_, _||_, cond, true≢false}
 use mathlib.Core.List.{List, [], _∷_}
-use Prim.Native.Nat.{ℕ, zero, suc, _-_, _<_, _≤_, _/_, _%_}
+use Prim.Native.Nat.{ℕ, zero, suc, _-_, _<_, _≤_, _/_, _%_, _^_}
 use native.Mathlib.Omega.{arith}
 use lib.Dec.{ltb, eqb}
 use lib.ListN.{length, getD}
 use lib.Seq.{slice, slice-empty, length-slice}
-use lib.Ieee.{Float, nan}
+use lib.Ieee.{Float, nan, neg, le, ofBits}
+use lib.Ieee.Exact.{HasValue}
 use borrow.Author.Tests.{ltb-true, ltb-false, leb-false, eqb-true, eqb-false, not-false, ne-eqb, lt-ltb, le-ltb}
 use Rattle.places.specs.Loops.{anyOf}
 use Rattle.places.specs.Lists.{Each}
 use Rattle.places.proofs.Stored.{length-threes}
+use Rattle.floats.proofs.Within.{Within, within-between}
 use Rattle.flat.specs.Points.{verticesOf}
 use Rattle.cell.specs.Faces.{rises}
-use Rattle.cell.specs.Refusals.{firstRow, outOfRange, notBelow, isEmpty, pointsRefused, sizeRefused, numberRefused}
+use Rattle.cell.specs.Refusals.{firstRow, limit, outOfRange, notBelow, isEmpty, pointsRefused, sizeRefused, numberRefused}
 use Rattle.cell.specs.Refusals.{endsRefused, indexRefused, refusalOf}
 use Rattle.cell.specs.Steps.{Sound}
 
@@ -66,6 +68,22 @@ any-none test d (x ∷ l) e (suc k) h = any-none test d l (any-step test x l e .
 pub all-in-range : (xs : List Float) → numberRefused xs ≡ false → Each nan (λ x. outOfRange x ≡ false) xs
 unfolding numberRefused
 all-in-range xs e = record { holds = λ k h. any-none outOfRange nan xs e k h }
+
+-- and such a number is at most 2 ^ 40 in magnitude
+pub limit-value : HasValue limit false (2 ^ 40) 1
+unfolding ofBits
+limit-value = (refl, refl)
+
+both : (a b : Bool) → not (a && b) ≡ false → (a ≡ true) × (b ≡ true)
+both true true e = (refl, refl)
+both true false e = absurd (true≢false e)
+both false b e = absurd (true≢false e)
+
+pub tame-within : (x : Float) → outOfRange x ≡ false → Within 40 x
+unfolding outOfRange
+tame-within x e =
+    let h = both (le (neg limit) x) (le x limit) e in
+    within-between x limit 40 limit-value (h .0) (h .1)
 
 pub all-below : (n : ℕ) (cs : List ℕ) → indexRefused n cs ≡ false → Each 0 (λ v. v < n) cs
 unfolding indexRefused

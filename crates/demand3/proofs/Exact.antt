@@ -12,7 +12,7 @@ use Rattle.exact.proofs.Scaled.{size-of, exact-size}
 use Rattle.demand3.specs.Demand3.{Exact}
 
 -- a product has the sign of its factor
-signed-times : (s : Bool) (n c : ℕ) → signed s n *ℤ pos c ≡ signed s (n * c)
+pub signed-times : (s : Bool) (n c : ℕ) → signed s n *ℤ pos c ≡ signed s (n * c)
 signed-times true zero c = zero-*ℤ (pos c) ∙ ap (signed true) (sym (zero-mul c))
 signed-times true (suc n) c = negsuc-*ℤ-pos n c
 signed-times false n c = pos-*ℤ-pos n c

@@ -5,3 +5,4 @@ pub mod Cube
 pub mod Refused
 pub mod TurnFaces
 pub mod Turns
+pub mod Local

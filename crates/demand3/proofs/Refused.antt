@@ -49,7 +49,7 @@ row-0 false true = (λ e. absurd (omega arith), λ p. absurd (false≢true (sym 
 row-0 false false = (λ e. (refl, refl), λ p. refl)
 
 -- a number that the first does not give is given by the second, where the first gives none
-second : (first rest w : ℕ) → (first ≢ 0 → first ≢ w) → (firstRefusal first rest ≡ w) ↔ ((first ≡ 0) × (rest ≡ w))
+pub second : (first rest w : ℕ) → (first ≢ 0 → first ≢ w) → (firstRefusal first rest ≡ w) ↔ ((first ≡ 0) × (rest ≡ w))
 unfolding firstRefusal
 second first rest w n = (go (eqb first 0) refl, λ p. rw (eq-eqb first 0 (p .0)) (p .1))
   where

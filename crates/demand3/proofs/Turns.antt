@@ -1,15 +1,14 @@
 -- No turn is a NaN, since it is finite: coordinates are at most 2 ^ 40 in magnitude, so their differences are at most 2 ^ 41, the products
 -- of these at most 2 ^ 82, and a turn at most 2 ^ 83. So the two rules agree at every corner, choose the same one, and make the same cut.
 use mathlib.Core.Path.{_≡_, refl, ap}
-use mathlib.Core.Bool.{Bool, true, false, not, _&&_, true≢false, cond}
+use mathlib.Core.Bool.{Bool, true, false, not, cond}
 use mathlib.Core.List.{List, [], _∷_}
 use Prim.Native.Nat.{ℕ, zero, suc, _+_, _-_, _*_, _/_, _^_, _<_, _≤_}
 use native.Mathlib.Omega.{arith}
 use lib.Dec.{eqb, ltb}
 use lib.ListN.{length, getD, length-map}
 use lib.Seq.{slice}
-use lib.Ieee.{Float, nan, binary64, neg, lt, le, isNan, ofBits}
-use lib.Ieee.Exact.{HasValue}
+use lib.Ieee.{Float, nan, binary64, neg, lt, le, isNan}
 use Rattle.places.specs.Loops.{firstFrom}
 use Rattle.places.specs.Lists.{without}
 use Rattle.places.specs.Ring.{before, after, prevOf, nextOf}
@@ -19,34 +18,18 @@ use Rattle.places.proofs.Lists.{map-at, each-without, each-slice}
 use Rattle.places.proofs.Rings.{prev-below, next-below}
 use Rattle.places.proofs.Stored.{length-threes, threes-at}
 use Rattle.floats.specs.F64.{_-f_, _*f_, zero64, one64}
-use Rattle.floats.proofs.Within.{Within, within-between, within-neg, within-sub, within-mul, within-one, within-number, at-least-zero}
+use Rattle.floats.proofs.Within.{Within, within-neg, within-sub, within-mul, within-one, within-number, at-least-zero}
 use Rattle.flat.specs.Points.{Point, at, verticesOf}
 use Rattle.flat.specs.Steps.{Inside}
 use Rattle.flat.specs.Flat.{cross2Of, project2Of, pointOf, pointsOf, summedAreaOf}
 use Rattle.next_corner.specs.NextCorner.{directionOf, turnsOf, turnsAt, earAt, findEar, findTurn, findCorner, orElse}
 use Rattle.cut.specs.Cut.{nothing, cutWith, clipped, cutRing, nextCornerOf, cutIn, axisFor, directionFor, cutOf}
 use Rattle.cell.specs.Faces.{facesOf}
-use Rattle.cell.specs.Refusals.{limit, outOfRange, numberRefused}
+use Rattle.cell.specs.Refusals.{numberRefused}
 use Rattle.cell.proofs.Faces.{length-faces, face-at}
-use Rattle.cell.proofs.Refusals.{all-in-range, sound, tame}
+use Rattle.cell.proofs.Refusals.{all-in-range, tame-within, sound, tame}
 use Rattle.demand3.specs.Turns.{turnAt, NoNanTurn, NoNanTurns, rustEarAt, rustFindCorner, rustNextCornerOf, rustCutOf, SameCut}
 use Rattle.demand3.specs.Turns.{SameCuts, SameCellCuts}
-
--- ---- a coordinate that is in range
-limit-value : HasValue limit false (2 ^ 40) 1
-unfolding ofBits
-limit-value = (refl, refl)
-
-both : (a b : Bool) → not (a && b) ≡ false → (a ≡ true) × (b ≡ true)
-both true true e = (refl, refl)
-both true false e = absurd (true≢false e)
-both false b e = absurd (true≢false e)
-
-tame-within : (x : Float) → outOfRange x ≡ false → Within 40 x
-unfolding outOfRange
-tame-within x e =
-    let h = both (le (neg limit) x) (le x limit) e in
-    within-between x limit 40 limit-value (h .0) (h .1)
 
 -- ---- a point of the plane with two such coordinates
 record Near (p : Point) : Type 0 where

@@ -2,3 +2,4 @@ pub mod Demand3
 pub mod Cube
 pub mod TurnFaces
 pub mod Turns
+pub mod Local

@@ -8,12 +8,13 @@ use native.Mathlib.Nat.{mul-le-mul, mul-le-mul-right, mul-right-comm, mul-mul-mu
 use native.Mathlib.Omega.{arith}
 use lib.Dec.{T, ltb, eqb, ltb→lt, eqb→eq}
 use borrow.Author.Tests.{lt-ltb, le-ltb, ne-eqb}
-use lib.Pow.{pow-add, pow-lt}
+use lib.Pow.{pow-add, pow-lt, pow-mono}
 use lib.Ieee.{Float, nan, inf, fin, Format, prec, emax, low, up, down, unlike, odd, units, round}
 use lib.Ieee.{neg, sum, add, sub, mul, below, level, lt, le, isNan, ofBits}
 use lib.Ieee.Fits.{down-pos, round-is, two}
 use lib.Ieee.Order.{round-mono, drop, kept}
 use lib.Ieee.Exact.{HasValue, round-exact}
+use lib.Ieee.Scale.{finite}
 use Rattle.floats.specs.F64.{zero64, one64}
 use Rattle.floats.proofs.Monotone.{unsigned, round-unsigned}
 
@@ -22,6 +23,11 @@ abbrev pub Within : ℕ → Float → Type 0
 Within a nan = ⊥
 Within a (inf s) = ⊥
 Within a (fin s m e) = m * up e ≤ 2 ^ a * down e
+
+pub within-to : (x : Float) (a b : ℕ) → a ≤ b → Within a x → Within b x
+within-to nan a b l h = absurd h
+within-to (inf s) a b l h = absurd h
+within-to (fin s m e) a b l h = le-trans h (mul-le-mul-right (down e) (pow-mono l))
 
 -- ---- from an order to a bound
 either-le : {p q : ℕ} (less same : Bool) → (T less → p < q) → (T same → p ≡ q) → T (less || (same && true)) → p ≤ q
@@ -164,6 +170,11 @@ unfolding isNan
 within-number nan a h = absurd h
 within-number (inf s) a h = absurd h
 within-number (fin s m e) a h = refl
+
+pub within-finite : (x : Float) (a : ℕ) → Within a x → T (finite x)
+within-finite nan a h = absurd h
+within-finite (inf s) a h = absurd h
+within-finite (fin s m e) a h = tt
 
 against-zero : (s : Bool) (z b : ℕ) → z ≡ 0 → (below false z s b || level false z s b) ≡ not (below s b false z)
 against-zero false z zero e = rw e

@@ -26,6 +26,7 @@ use Rattle.geometry.specs.declared.PlaneAnswer.{PlaneAnswer}
 use Rattle.geometry.specs.declared.FacePlane.{FacePlane}
 use Rattle.geometry.specs.declared.Clipped.{Clipped}
 use Rattle.geometry.specs.Cells.{trianglesAnswer}
+use Rattle.geometry.specs.Points.{toLocalAnswer}
 use Rattle.geometry.specs.TurnFaces.{canTurnAnswer, TurnFacesGives}
 
 -- refused by a number of SCOPE 3, or values: numbers for one lent list, counts for another
@@ -157,6 +158,13 @@ trianglesTold coords corners ends k out count =
     let short = ltb (length count) 1 in
     let a = trianglesAnswer coords corners ends k (cond short [] out) in
     (written (ofCount (a .0)) [] count .0, cond short out (a .1), written (ofCount (a .0)) [] count .2)
+
+-- to_local, its vector told in `out`: the code and both lists; where the vector has no room nothing is moved
+abbrev pub toLocalTold : List Float → List Float → ℕ × List Float × List Float
+toLocalTold coords out =
+    let a = toLocalAnswer coords in
+    let reply = written (ofPlace (a .0)) out [] in
+    (reply .0, cond (ltb (length out) 3) coords (a .1), reply .1)
 
 -- the code of turn_faces where its count has no room: the refusal, else 6
 abbrev pub codeWithoutRoom : Done → ℕ

@@ -4,7 +4,8 @@ use lib.Ieee.{Float}
 use Rattle.places.specs.Stored.{inPairs, joined}
 use Rattle.flat.specs.Points.{verticesOf, centroidOf, boundsOf}
 use Rattle.flat.specs.Flat.{newellOf, signedAreaOf, ccwOf}
-use Rattle.refusals.specs.Refusals.{listRefusal, planeRefusal}
+use Rattle.local.specs.Local.{originOf, movedBy}
+use Rattle.refusals.specs.Refusals.{listRefusal, localRefusal, planeRefusal}
 use Rattle.geometry.specs.declared.Number.{Number}
 use Rattle.geometry.specs.declared.Place.{Place}
 use Rattle.geometry.specs.declared.Extent.{Extent}
@@ -24,6 +25,17 @@ vertexCentroidAnswer coords = answered (listRefusal coords) (Place.Is (named3 (c
 -- list_bounds: the box of the points
 unfoldable pub listBoundsAnswer : List Float → Extent
 listBoundsAnswer coords = answered (listRefusal coords) (Extent.Is (bounds3 (boundsOf 3 (verticesOf coords)))) Extent.Refused
+
+-- to_local: the vector by which the vertices move, and the list afterwards
+unfoldable pub toLocalAnswer : List Float → Place × List Float
+toLocalAnswer coords =
+    let origin = originOf (verticesOf coords) in
+    let moved = joined (movedBy origin (verticesOf coords)) in
+    answered (localRefusal coords) (Place.Is (named3 origin), moved) (λ why. (Place.Refused why, coords))
+
+-- local_origin: that vector, and nothing is moved
+unfoldable pub localOriginAnswer : List Float → Place
+localOriginAnswer coords = answered (localRefusal coords) (Place.Is (named3 (originOf (verticesOf coords)))) Place.Refused
 
 -- signed_area2: above 0 where the outline runs counterclockwise
 unfoldable pub signedArea2Answer : List Float → Number

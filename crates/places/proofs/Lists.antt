@@ -163,3 +163,8 @@ module _ {A : Type 0} {d : A} {P : A → Type 0} where
       go k h =
           let q : length (slice s e l) ≡ min e (length l) - s = simp (length-drop, length-take) in
           rw (getD-drop s (take e l) k d, getD-take e l (s + k) d (omega arith)) (t .holds (s + k) (omega arith))
+
+-- a list of which nothing changes
+pub map-still : {A : Type 0} (f : A → A) (d : A) (l : List A) → Each d (λ x. f x ≡ x) l → map f l ≡ l
+map-still f d [] e = refl
+map-still f d (x ∷ l) e = rw (each-head e, map-still f d l (each-tail e))

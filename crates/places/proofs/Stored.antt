@@ -4,9 +4,11 @@ use mathlib.Core.Path.{_≡_, refl, ap, _∙_}
 use mathlib.Core.List.{List, [], _∷_, _++_}
 use Prim.Native.Nat.{ℕ, zero, suc, _+_, _*_, _/_, _%_, _<_}
 use native.Mathlib.Omega.{arith}
-use lib.ListN.{length, getD, set, take, drop}
+use lib.ListN.{length, getD, set, take, drop, length-append}
+use Rattle.places.specs.Lists.{Each}
 use Rattle.places.specs.Stored.{inThrees, inPairs, joined}
 use Rattle.places.specs.Steps.{overThrees, overPairs}
+use Rattle.places.proofs.Lists.{each-head, each-tail}
 
 module _ {A : Type 0} where
   pub length-threes : (l : List A) → length (inThrees l) ≡ length l / 3
@@ -47,6 +49,13 @@ module _ {A : Type 0} where
       rw (e, e1) (pairs-at l i d (omega arith))
 
   -- where no number is over, the points have all the numbers
+  pub joined-threes : (l : List A) → length l % 3 ≡ 0 → joined (inThrees l) ≡ l
+  unfolding inThrees joined
+  joined-threes [] h = refl
+  joined-threes (a ∷ []) h = absurd (omega arith)
+  joined-threes (a ∷ b ∷ []) h = absurd (omega arith)
+  joined-threes (a ∷ b ∷ c ∷ l) h = ap (λ (r : List A). a ∷ b ∷ c ∷ r) (joined-threes l (omega arith))
+
   pub joined-pairs : (l : List A) → length l % 2 ≡ 0 → joined (inPairs l) ≡ l
   unfolding inPairs joined
   joined-pairs [] h = refl
@@ -175,6 +184,28 @@ module _ {A : Type 0} where
   threes-append (a ∷ []) ys h = absurd (omega arith)
   threes-append (a ∷ b ∷ []) ys h = absurd (omega arith)
   threes-append (a ∷ b ∷ c ∷ xs) ys h = rw (threes-append xs ys (omega arith))
+
+  -- a point of three numbers is read as one
+  three-of-three : (p : List A) → length p ≡ 3 → inThrees p ≡ p ∷ []
+  unfolding inThrees
+  three-of-three [] h = absurd (omega arith)
+  three-of-three (a ∷ []) h = absurd (omega arith)
+  three-of-three (a ∷ b ∷ []) h = absurd (omega arith)
+  three-of-three (a ∷ b ∷ c ∷ []) h = refl
+  three-of-three (a ∷ b ∷ c ∷ d ∷ p) h = absurd (omega arith)
+
+  -- points of three numbers each, stored one after the other and read again, are the points
+  pub threes-joined : (ps : List (List A)) → Each [] (λ p. length p ≡ 3) ps → inThrees (joined ps) ≡ ps
+  unfolding inThrees joined
+  threes-joined [] e = refl
+  threes-joined (p ∷ ps) e =
+      let three = three-of-three p (each-head e) in
+      rw (threes-append p (joined ps) (omega (arith, each-head e)), three, threes-joined ps (each-tail e))
+
+  pub length-joined : (ps : List (List A)) → Each [] (λ p. length p ≡ 3) ps → length (joined ps) ≡ length ps * 3
+  unfolding joined
+  length-joined [] e = refl
+  length-joined (p ∷ ps) e = omega (arith, length-append p (joined ps), length-joined ps (each-tail e), each-head e)
 
   pub threes-front : (n : ℕ) (front l : List A) → length front ≡ n * 3
       → inThrees (front ++ drop (n * 3) l) ≡ inThrees front ++ drop n (inThrees l)

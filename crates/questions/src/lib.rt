@@ -2,7 +2,7 @@
 // code and every number of every lent list are compared with the stored ones.
 // The words of a question: the entry, by the numbers of tests/vectors/asking.py; three arguments; the code, or what a leaf
 // returns; 1 where zeros of either sign are the same; then every lent list as it stands afterwards, each as how many words
-// and the words: first the numbers and the counts, then the list that is turned, the triangles or the two work lists.
+// and the words: first the numbers and the counts, then the list that is turned or moved, the triangles or the two work lists.
 mod cells;
 mod clips;
 mod leaves;
@@ -94,6 +94,7 @@ fn in_lists(
         80 => turned::outward(q, coords, corners, ends, values, counts),
         81 => turned::backward(q, coords, corners, ends, values, counts),
         82 => turned::outline(q, coords, values, counts),
+        83 => turned::local(q, coords, values, counts),
         90 => turned::triangles(q, coords, corners, ends, values, counts),
         100 | 101 | 102 | 103 => clips::agrees(q, coords, corners, ends, values, counts),
         _ => plain(q, coords, corners, ends, values, counts),

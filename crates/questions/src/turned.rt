@@ -1,4 +1,4 @@
-// The entries that turn a list in place, and the triangles of a face: one list beside the numbers and the counts.
+// The entries that turn or move a list in place, and the triangles of a face: one list beside the numbers and the counts.
 ghost use Prim.Native.Nat.{_≤_};
 ghost use lib.ListN.{length};
 use crate::answered;
@@ -52,6 +52,15 @@ pub fn backward(
 // Whether an outline is turned as stored.
 pub fn outline(q: &[u64], coords: &mut [f64], values: &[f64], counts: &[usize]) -> bool {
     let code = abi::lists::wegrusamt_into_ccw2(coords);
+    if !answered_beside(q, code, values, counts) {
+        return false;
+    }
+    lent::same_numbers(others(q), coords, 0)
+}
+
+// Whether vertices are moved to a local origin as stored.
+pub fn local(q: &[u64], coords: &mut [f64], values: &mut [f64], counts: &[usize]) -> bool {
+    let code = abi::lists::wegrusamt_to_local(coords, values);
     if !answered_beside(q, code, values, counts) {
         return false;
     }

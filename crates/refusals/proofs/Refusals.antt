@@ -12,7 +12,6 @@ use lib.ListN.{length, getD}
 use lib.Seq.{length-slice}
 use lib.Ieee.{Float}
 use Rattle.places.specs.Loops.{anyOf}
-use Rattle.places.specs.Stored.{inPairs}
 use Rattle.places.proofs.Lists.{each-slice}
 use Rattle.places.proofs.Stored.{length-threes, length-pairs}
 use Rattle.flat.specs.Points.{verticesOf}
@@ -24,11 +23,11 @@ use Rattle.cell.proofs.Faces.{face-at, rises-at, length-faces}
 use Rattle.cell.proofs.Refusals.{row-applies, row-passed, row-zero, no-row, or-none, any-none, Counted, counted, sound, asked-known}
 use Rattle.inside.specs.Inside.{faceEnd}
 use Rattle.inside.specs.Steps.{MarkedInside}
-use Rattle.planes.specs.Planes.{inFours}
+use Rattle.local.specs.Local.{moveRefused}
 use Rattle.planes.proofs.Faces.{has-corner}
 use Rattle.planes.proofs.Stored.{length-fours}
-use Rattle.refusals.specs.Refusals.{firstRefusal, listRefusal, pairsRefused, planeRefusal, faceRefusal, facesRefusal, roomRefused}
-use Rattle.refusals.specs.Refusals.{trianglesRefusal, strays, phedRefusal, queriesRefused, surveyRefusal, planesRefused}
+use Rattle.refusals.specs.Refusals.{firstRefusal, listRefusal, localRefusal, pairsRefused, planeRefusal, faceRefusal, facesRefusal}
+use Rattle.refusals.specs.Refusals.{roomRefused, trianglesRefusal, strays, phedRefusal, queriesRefused, surveyRefusal, planesRefused}
 use Rattle.refusals.specs.Refusals.{workRefused, worksRefusal, clipRefusal, planarRefusal, overlapRefusal}
 use Rattle.refusals.specs.Steps.{partsRefused}
 
@@ -114,9 +113,23 @@ parts-known n size most e =
     (eqb-true _ _ (not-false _ (size-known .0)), ltb-false most _ (size-known .1))
 
 -- ---- lists of points
-pub list-counted : (coords : List Float) → listRefusal coords ≡ 0 → Counted coords
+pub list-points : (coords : List Float) → listRefusal coords ≡ 0 → pointsRefused coords ≡ false
 unfolding listRefusal
-list-counted coords e = counted coords (row-zero 1 ((2, numberRefused coords) ∷ []) (pointsRefused coords) (omega arith) e .0)
+list-points coords e = row-zero 1 ((2, numberRefused coords) ∷ []) (pointsRefused coords) (omega arith) e .0
+
+pub list-counted : (coords : List Float) → listRefusal coords ≡ 0 → Counted coords
+list-counted coords e = counted coords (list-points coords e)
+
+pub list-numbers : (coords : List Float) → listRefusal coords ≡ 0 → numberRefused coords ≡ false
+unfolding listRefusal
+list-numbers coords e = one-row 2 _ (omega arith) (row-zero 1 ((2, numberRefused coords) ∷ []) (pointsRefused coords) (omega arith) e .1)
+
+-- vertices that can be moved to a local origin: the list passes, and none stays behind
+pub local-zero : (coords : List Float) → localRefusal coords ≡ 0 → (listRefusal coords ≡ 0) × (moveRefused (verticesOf coords) ≡ false)
+unfolding localRefusal
+local-zero coords e =
+    let two = or-zero _ _ e in
+    (two .0, one-row 15 _ (omega arith) (two .1))
 
 pub plane-counted : (ps : List Float) → planeRefusal ps ≡ 0 → (length ps % 2 ≡ 0) × (length ps ≤ 1024)
 unfolding planeRefusal

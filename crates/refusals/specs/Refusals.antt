@@ -1,6 +1,6 @@
 -- Why a check refuses a public entry's input, 0 where none does. For a cell it is `refusalOf` of the crate cell; here stand lists of
--- points, what is asked of a cell's faces, triangles, turning the backward faces, `point_in_phed`, clipping, the overlap and the
--- report's query points.
+-- points, the move to a local origin, what is asked of a cell's faces, triangles, turning the backward faces, `point_in_phed`, clipping,
+-- the overlap and the report's query points.
 -- The refusal 6 of clipping and the overlaps, which is found on the way, is not among these.
 use mathlib.Core.Bool.{Bool, not, _&&_, _||_, cond}
 use mathlib.Core.List.{List, [], _∷_}
@@ -16,6 +16,7 @@ use Rattle.cell.specs.Faces.{facesOf}
 use Rattle.cell.specs.Refusals.{firstRow, pointsRefused, numberRefused, emptyRefused, refusalOf}
 use Rattle.facing.specs.Refused.{reversalRefusal}
 use Rattle.inside.specs.Inside.{faceEnd}
+use Rattle.local.specs.Local.{moveRefused}
 use Rattle.planes.specs.Planes.{inFours}
 
 -- the first of two refusals: the second is asked only where the first is none
@@ -26,6 +27,10 @@ firstRefusal why rest = cond (eqb why 0) rest why
 -- a list of points of space: 1 size, 2 number
 unfoldable pub listRefusal : List Float → ℕ
 listRefusal coords = firstRow ((1, pointsRefused coords) ∷ (2, numberRefused coords) ∷ [])
+
+-- vertices to be moved to a local origin: 1 size, 2 number, then 15, a coordinate that cannot be moved exactly
+unfoldable pub localRefusal : List Float → ℕ
+localRefusal coords = firstRefusal (listRefusal coords) (firstRow ((15, moveRefused (verticesOf coords)) ∷ []))
 
 -- 1 size, of points of the plane: not in pairs, or over 512
 unfoldable pub pairsRefused : List Float → Bool

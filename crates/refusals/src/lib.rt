@@ -5,7 +5,8 @@ ghost use Prim.Native.Nat.{_-_, _<_};
 ghost use lib.Dec.{ltb};
 ghost use Rattle.places.specs.Lent.{old};
 ghost use Rattle.places.specs.Loops.{anyOf};
-ghost use Rattle.refusals.specs.Refusals.{listRefusal, pairsRefused, planeRefusal, cellRefusal, containsRefusal, facesRefusal};
+ghost use Rattle.refusals.specs.Refusals.{listRefusal, localRefusal, pairsRefused, planeRefusal, cellRefusal, containsRefusal};
+ghost use Rattle.refusals.specs.Refusals.{facesRefusal};
 ghost use Rattle.refusals.specs.Refusals.{faceRefusal, roomRefused, turnFacesRefusal, strays, phedRefusal, queriesRefused};
 ghost use Rattle.refusals.specs.Refusals.{surveyRefusal};
 ghost use Rattle.refusals.specs.Refusals.{planesRefused, workRefused, worksRefusal, clipRefusal, planarRefusal, overlapRefusal};
@@ -60,6 +61,21 @@ pub fn list_refusal(coords: &[f64]) -> u8
     }
     if cell::number_refused(coords) {
         return 2;
+    }
+    0
+}
+
+// Why vertices are not moved to a local origin.
+// Ruled out: 15 for a list that has a number out of range; 15 where every difference is an f64.
+pub fn local_refusal(coords: &[f64]) -> u8
+    ensures { λ r. ⌜ r ≡ localRefusal (old coords) ⌝ }
+{
+    let why = list_refusal(coords);
+    if why != 0 {
+        return why;
+    }
+    if local::move_refused(coords) {
+        return 15;
     }
     0
 }

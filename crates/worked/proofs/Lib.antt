@@ -1,3 +1,4 @@
 pub mod Table
 pub mod Kept
 pub mod TurnFaces
+pub mod Local

@@ -3,11 +3,11 @@
 use crate::calls::Calls;
 use crate::comparison::Comparison;
 use crate::{
-    Outcome, clip, compare_cells, count_and_seed, cut, floats, leaves, overlap, shapes, short,
-    turn_faces, turning,
+    Outcome, clip, compare_cells, count_and_seed, cut, floats, leaves, local, overlap, shapes,
+    short, turn_faces, turning,
 };
 
-pub const COMPARISONS: [Comparison; 10] = [
+pub const COMPARISONS: [Comparison; 11] = [
     Comparison {
         name: "floats",
         what: "the leaves on f64 against the machine, over N random patterns and others",
@@ -55,6 +55,12 @@ pub const COMPARISONS: [Comparison; 10] = [
         what: "N random cells with faces backward, and damaged copies, against a second teller",
         count: 100_000,
         compare: turn_faces::compare,
+    },
+    Comparison {
+        name: "local",
+        what: "N random lists of vertices to move to a local origin, against a second teller",
+        count: 200_000,
+        compare: local::compare,
     },
     Comparison {
         name: "clip",

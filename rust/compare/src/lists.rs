@@ -1,11 +1,12 @@
-//! The entries on lists of points, in space and in the plane, by the port and by the Rust.
+//! The entries on lists of points, in space and in the plane, by the port and by the Rust; for
+//! `to_local`, which the Rust has not, by the second teller.
 
 use oracle::plain as rust;
 
 use crate::calls::{Calls, departure, print_list, unless_refused};
 use crate::random::Random;
 use crate::shrink::{Input, Shrink, in_groups, within};
-use crate::{ours, refusals};
+use crate::{local, ours, refusals};
 
 /// A list of points, D numbers each; or of numbers that are not so many.
 #[derive(Clone)]
@@ -41,6 +42,7 @@ pub fn compare_in_space(calls: &mut Calls, Points(numbers): &Points<3>, random: 
     calls.asked_for_bounds("list_bounds", 6, bounds, random, |out| {
         ours::list_bounds(numbers, out)
     });
+    local::compare_list(calls, numbers, ours::to_local);
 }
 
 pub fn compare_in_the_plane(calls: &mut Calls, Points(numbers): &Points<2>, random: &mut Random) {

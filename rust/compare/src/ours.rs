@@ -118,6 +118,7 @@ entries! {
     newell_normal(points: &[f64], out: &mut [f64]);
     vertex_centroid(points: &[f64], out: &mut [f64]);
     list_bounds(points: &[f64], out: &mut [f64]);
+    to_local(points: &mut [f64], out: &mut [f64]);
     signed_area2(points: &[f64], out: &mut [f64]);
     vertex_centroid2(points: &[f64], out: &mut [f64]);
     bounds2(points: &[f64], out: &mut [f64]);

@@ -10,6 +10,7 @@ use crate::comparison::{Compared, ask};
 use crate::leaves::{LEAVES, SPECIAL};
 use crate::limits::{FACE_END, LARGEST};
 use crate::lists::{Points, compare_in_space, compare_in_the_plane};
+use crate::local;
 use crate::marked::{self, Marked};
 use crate::outlines;
 use crate::overlap::{by_the_ruled, of_two};
@@ -51,6 +52,7 @@ pub fn compare(calls: &mut Calls, times: u64, seed: u64) -> Compared {
     let parts = [
         leaves,
         lists_of_points,
+        lists_to_move,
         corners_and_ends,
         single_faces,
         faces_of_a_tetrahedron,
@@ -107,6 +109,27 @@ fn lists_of_points(calls: &mut Calls, random: &mut Random) -> Compared {
     for numbers in lists_up_to(7, &NUMBERS) {
         ask(calls, &Points(numbers.clone()), random, compare_in_space)?;
         ask(calls, &Points(numbers), random, compare_in_the_plane)?;
+    }
+    Ok(())
+}
+
+/// Numbers that can be moved to every origin, both zeros among them; one that can be moved to 1 and not
+/// to -1; one that can be moved to 0 alone; and one that is refused before.
+const TO_MOVE: [f64; 8] = [
+    0.0,
+    -0.0,
+    1.5,
+    -1.0,
+    LARGEST,
+    f64::EPSILON / 2.0,
+    5e-324,
+    f64::NAN,
+];
+
+/// Up to two vertices, whole or not.
+fn lists_to_move(calls: &mut Calls, random: &mut Random) -> Compared {
+    for numbers in lists_up_to(6, &TO_MOVE) {
+        local::ask_about(calls, "vertices to move", numbers, random)?;
     }
     Ok(())
 }

@@ -85,6 +85,7 @@ entries! {
     wegrusamt_newell_normal newell_normal(coords: f64; ; out: f64);
     wegrusamt_vertex_centroid vertex_centroid(coords: f64; ; out: f64);
     wegrusamt_list_bounds list_bounds(coords: f64; ; out: f64);
+    wegrusamt_to_local to_local(; ; coords: f64, out: f64);
     wegrusamt_signed_area2 signed_area2(points: f64; ; out: f64);
     wegrusamt_vertex_centroid2 vertex_centroid2(points: f64; ; out: f64);
     wegrusamt_bounds2 bounds2(points: f64; ; out: f64);

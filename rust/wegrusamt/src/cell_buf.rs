@@ -1,8 +1,8 @@
 //! A cell that owns its lists.
 
-use crate::{Cell, Refusal, into_ccw, turn_faces};
+use crate::{Cell, Refusal, into_ccw, space, turn_faces};
 
-/// A cell that owns its lists, to build one face by face and to turn its faces.
+/// A cell that owns its lists, to build one face by face, to turn its faces and to move it.
 ///
 /// ```
 /// use wegrusamt::CellBuf;
@@ -90,5 +90,29 @@ impl CellBuf {
     /// Turns every face outward in the corner list: see [`into_ccw()`].
     pub fn into_ccw(&mut self) -> Result<(), Refusal> {
         into_ccw(&self.points, &mut self.corners, &self.ends)
+    }
+
+    /// Moves the points to a local origin, and answers the vector of whole numbers that was taken off
+    /// each: see [`space::to_local()`].
+    ///
+    /// ```
+    /// use wegrusamt::CellBuf;
+    ///
+    /// let foot = [[0.0, 0.0], [0.05, 0.0], [0.05, 0.25], [0.0, 0.25]];
+    /// let at = |z| foot.map(|[x, y]| [8588590.0 + x, 8529546.0 + y, 2969498.0 + z]);
+    /// let mut cell = CellBuf::from_faces(
+    ///     [at(0.0), at(2.0)].concat(),
+    ///     [[0, 3, 2, 1], [4, 5, 6, 7], [0, 1, 5, 4], [2, 3, 7, 6], [1, 2, 6, 5], [3, 0, 4, 7]],
+    /// );
+    /// // So far away a face is cut short, and its part of the volume is missing.
+    /// assert_eq!(cell.as_cell().survey(&[])?.short, 1);
+    ///
+    /// assert_eq!(cell.to_local()?, [8588590.0, 8529546.0, 2969498.0]);
+    /// let survey = cell.as_cell().survey(&[])?;
+    /// assert_eq!((survey.short, survey.volume), (0, 0.02500000037252903));
+    /// # Ok::<(), wegrusamt::Refusal>(())
+    /// ```
+    pub fn to_local(&mut self) -> Result<[f64; 3], Refusal> {
+        space::to_local(&mut self.points)
     }
 }

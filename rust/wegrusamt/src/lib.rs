@@ -1,7 +1,7 @@
 //! Cells with flat faces, measured by functions that are proved: volume, centroids, closedness,
-//! containment, convexity, turning of faces, planes, clipping and overlap. Each answers what
-//! docs/SCOPE.md of Wegrusamt says, bit for bit, or refuses with a [`Refusal`]; each ends on every
-//! input and keeps nothing.
+//! containment, convexity, turning of faces, planes, clipping, overlap and the move to a local
+//! origin. Each answers what docs/SCOPE.md of Wegrusamt says, bit for bit, or refuses with a
+//! [`Refusal`]; each ends on every input and keeps nothing.
 //!
 //! ```
 //! use wegrusamt::CellBuf;

@@ -38,11 +38,14 @@ pub enum Refusal {
     /// 12: no choice of faces to reverse closes the cell. Only the turning of backward faces
     /// refuses it.
     Unclosable = 12,
+    /// 15: a coordinate less the local origin is not an f64. Only the move to a local origin refuses
+    /// it.
+    Inexact = 15,
 }
 
 impl Refusal {
     /// All refusals, by their numbers.
-    pub const ALL: [Refusal; 8] = [
+    pub const ALL: [Refusal; 9] = [
         Refusal::Size,
         Refusal::Number,
         Refusal::Ends,
@@ -51,9 +54,10 @@ impl Refusal {
         Refusal::Room,
         Refusal::Sides,
         Refusal::Unclosable,
+        Refusal::Inexact,
     ];
 
-    /// The refusal's number in the table of SCOPE 3: 1 to 6, 11 and 12.
+    /// The refusal's number in the table of SCOPE 3: 1 to 6, 11, 12 and 15.
     pub const fn number(self) -> u8 {
         self as u8
     }
@@ -84,6 +88,7 @@ impl fmt::Display for Refusal {
             Refusal::Room => "a list that is written to is too short",
             Refusal::Sides => "a side does not occur exactly twice, or a face holds a vertex twice",
             Refusal::Unclosable => "no choice of faces to reverse closes the cell",
+            Refusal::Inexact => "a coordinate less the local origin is not an f64",
         };
         write!(f, "refusal {}: {why}", self.number())
     }

@@ -1,5 +1,5 @@
-//! The rows of SCOPE 16, the turning of backward faces (SCOPE 14) and every refusal, asked through
-//! the crate.
+//! The rows of SCOPE 16, the turning of backward faces (SCOPE 14), the move to a local origin
+//! (SCOPE 19) and every refusal, asked through the crate.
 
 use wegrusamt::{Cell, CellBuf, Plane, Refusal, Shape, floats, into_ccw, planar, point_in_phed};
 use wegrusamt::{FACE_END, WORK_NUMBERS, leaves, shapes, space, turn_faces};
@@ -367,7 +367,7 @@ fn an_empty_face_is_refused_where_it_matters() {
 #[test]
 fn refusals_have_the_numbers_of_the_documents() {
     let numbers = Refusal::ALL.map(Refusal::number);
-    assert_eq!(numbers, [1, 2, 3, 4, 5, 6, 11, 12]);
+    assert_eq!(numbers, [1, 2, 3, 4, 5, 6, 11, 12, 15]);
     let boxed: Box<dyn std::error::Error> = Box::new(Refusal::EmptyFace);
     assert_eq!(boxed.to_string(), "refusal 5: a face has no corners");
 }
@@ -438,6 +438,123 @@ fn lists_of_space_are_measured() {
     assert_eq!(space::bounds(&CUBE), Ok([[0.0; 3], [1.0; 3]]));
     assert_eq!(space::bounds(&[]), Err(Refusal::Size));
     assert_eq!(space::newell_normal(&[[f64::NAN; 3]]), Err(Refusal::Number));
+}
+
+/// The bits of points, which tell zeros and NaN apart.
+fn bits(points: &[[f64; 3]]) -> Vec<u64> {
+    let numbers = points.as_flattened().iter();
+    numbers.map(|number| number.to_bits()).collect()
+}
+
+/// Points are moved by a vector, and a second call has nothing to move.
+fn is_moved<const N: usize>(mut points: [[f64; 3]; N], vector: [f64; 3], moved: [[f64; 3]; N]) {
+    let told = space::to_local(&mut points).unwrap();
+    assert_eq!(bits(&[told]), bits(&[vector]), "{vector:?}");
+    assert_eq!(bits(&points), bits(&moved), "{vector:?}");
+    let told = space::to_local(&mut points).unwrap();
+    assert_eq!(bits(&[told]), [0; 3], "{vector:?}");
+    assert_eq!(bits(&points), bits(&moved), "{vector:?}");
+}
+
+#[test]
+fn points_are_moved_to_a_local_origin() {
+    // A fraction stays, a number below 0 is brought towards 0, and a vector has no -0.
+    is_moved(
+        [[7.75, -2.5, -0.25], [8.0, 3.0, 100.5]],
+        [7.0, -2.0, 0.0],
+        [[0.75, -0.5, -0.25], [1.0, 5.0, 100.5]],
+    );
+    // Nothing is taken off a number whose axis has 0, be it -0 or the least of all.
+    let least = f64::from_bits(1);
+    is_moved(
+        [[-0.0, 0.0, 0.5], [0.0, -0.0, least]],
+        [0.0, 0.0, 0.0],
+        [[-0.0, 0.0, 0.5], [0.0, -0.0, least]],
+    );
+    // A number that is the local origin's becomes +0, and -0 moves as 0 does.
+    is_moved(
+        [[-3.0, 3.0, 1.0], [-0.0, 3.0, 0.0]],
+        [-3.0, 3.0, 1.0],
+        [[0.0, 0.0, 0.0], [3.0, 0.0, -1.0]],
+    );
+    // Just below the limit the last digit is 2^-13.
+    let limit = 2.0_f64.powi(40);
+    let digit = limit - limit.next_down();
+    is_moved(
+        [[limit, -limit, limit - digit], [limit - digit, 0.0, 1.0]],
+        [limit, -limit, limit - 1.0],
+        [[0.0, 0.0, 1.0 - digit], [-digit, limit, 2.0 - limit]],
+    );
+}
+
+#[test]
+fn a_wide_list_may_leave_the_domain() {
+    let limit = 2.0_f64.powi(40);
+    let mut points = [[-limit, 0.0, 0.0], [limit, 0.0, 0.0]];
+    assert_eq!(space::to_local(&mut points), Ok([-limit, 0.0, 0.0]));
+    let moved = [[0.0, 0.0, 0.0], [2.0 * limit, 0.0, 0.0]];
+    assert_eq!(points, moved);
+    assert_eq!(space::to_local(&mut points), Err(Refusal::Number));
+    assert_eq!(points, moved);
+}
+
+/// Points are refused as they are moved, and are as they were.
+fn is_not_moved(points: &[[f64; 3]], refusal: Refusal) {
+    let mut lent = points.to_vec();
+    assert_eq!(space::to_local(&mut lent), Err(refusal), "{points:?}");
+    assert_eq!(bits(&lent), bits(points));
+}
+
+#[test]
+fn points_that_cannot_be_moved_are_refused() {
+    let first = [1.0, 2.0, 3.0];
+    // 1 - 2^-53 is an f64, and 1 + 2^-53 is not.
+    let half = f64::EPSILON / 2.0;
+    is_moved(
+        [first, [half, 2.0, 3.0]],
+        first,
+        [[0.0; 3], [half - 1.0, 0.0, 0.0]],
+    );
+    is_not_moved(&[first, [-half, 2.0, 3.0]], Refusal::Inexact);
+    // The last number of the last point alone.
+    let mut many = [first; 256];
+    many[255][2] = f64::from_bits(1);
+    is_not_moved(&many, Refusal::Inexact);
+    // The others come before, wherever they stand.
+    many[254][0] = f64::NAN;
+    is_not_moved(&many, Refusal::Number);
+    for wild in [f64::NAN, -f64::INFINITY, 2.0_f64.powi(40).next_up()] {
+        is_not_moved(&[[wild, 2.0, 3.0], [0.0, half, 0.0]], Refusal::Number);
+        is_not_moved(&[first, [-half, wild, 0.0]], Refusal::Number);
+    }
+    let mut too_many = many.to_vec();
+    too_many.push(first);
+    is_not_moved(&too_many, Refusal::Size);
+    is_not_moved(&[], Refusal::Size);
+}
+
+#[test]
+fn a_far_cell_is_moved_and_measured() {
+    let far = [8588590.0, 8529546.0, 2969498.0];
+    let size = [0.05, 0.25, 2.0];
+    let points = CUBE.map(|point| [0, 1, 2].map(|axis| far[axis] + size[axis] * point[axis]));
+    let mut cell = CellBuf::from_faces(points, FACES);
+    let before = cell.clone();
+    assert_eq!(cell.as_cell().survey(&[]).unwrap().short, 1);
+    assert_eq!(cell.to_local(), Ok(far));
+    let moved = [0.05000000074505806, 0.25, 2.0];
+    let moved = CUBE.map(|point| [0, 1, 2].map(|axis| moved[axis] * point[axis]));
+    assert_eq!(cell, CellBuf::from_faces(moved, FACES));
+    let survey = cell.as_cell().survey(&[]).unwrap();
+    assert_eq!((survey.closed, survey.short), (true, 0));
+    assert_eq!(survey.volume.to_bits(), 0x3F99_9999_A000_0000);
+    assert_eq!(cell.to_local(), Ok([0.0; 3]));
+
+    let mut refused = before.clone();
+    refused.points[7][0] = -0.05;
+    let before = refused.clone();
+    assert_eq!(refused.to_local(), Err(Refusal::Inexact));
+    assert_eq!(refused, before);
 }
 
 #[test]

@@ -11,7 +11,7 @@ def whole(x):
 
 
 def less(x, o):
-    """The f64 that is exactly x less the whole number o; None where there is none. Where it is 0, it has the sign of x less +0."""
+    """The f64 that is exactly x less the whole number o; None where there is none. A difference of 0 is +0, or x itself where o is 0."""
     exact = Fraction(x) - o
     if exact == 0:
         return x if o == 0 else 0.0

@@ -1,4 +1,5 @@
-"""Questions on the move to a local origin (SCOPE 19). The answers are worked by hand here, and local.py must give the same."""
+"""Questions on the move to a local origin (SCOPE 19). Those of `rows` and `refused` have answers worked by hand, and local.py must give
+the same; the others' answers are local.py's."""
 import math
 
 from asking import Case, bits, flat
@@ -44,7 +45,7 @@ def rows():
     yield 'local_2_40', of(LIMIT, -LIMIT, LIMIT, LIMIT - 0.5, 0.5 - LIMIT, 0), of(LIMIT, -LIMIT, LIMIT), of(0, 0, 0, -0.5, 0.5, -LIMIT)
     beyond = of(0, 0, 0, 2 * LIMIT, -2 * LIMIT, LIMIT + 1)
     yield 'local_beyond_2_40', of(-LIMIT, LIMIT, -1, LIMIT, -LIMIT, LIMIT), of(-LIMIT, LIMIT, -1), beyond
-    yield 'local_halves_at_2_40', of(LIMIT - 2.0 ** -13, 0, 0, LIMIT - 1, 0, 0), of(LIMIT - 1, 0, 0), of(1 - 2.0 ** -13, 0, 0, 0, 0, 0)
+    yield 'local_last_below_2_40', of(LIMIT - 2.0 ** -13, 0, 0, LIMIT - 1, 0, 0), of(LIMIT - 1, 0, 0), of(1 - 2.0 ** -13, 0, 0, 0, 0, 0)
     tiny = of(TINY, -LEAST_NORMAL, 0.5, -TINY, 1.5, LEAST_NORMAL)
     yield 'local_below_normal', tiny, of(0, 0, 0), tiny
     yield 'local_last_bit_fits', of(1, 0, 0, 2.0 ** -53, 0, 0), of(1, 0, 0), of(0, 0, 0, 2.0 ** -53 - 1, 0, 0)

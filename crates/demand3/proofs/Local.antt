@@ -9,7 +9,7 @@ use native.Mathlib.Omega.{arith}
 use borrow.Author.Tests.{eq-eqb}
 use lib.Dec.{T}
 use lib.ListN.{length, getD, length-map}
-use lib.IntN.{ℤ, pos, natAbs, _+ℤ_, _-ℤ_, _*ℤ_}
+use lib.IntN.{ℤ, pos, natAbs, _-ℤ_, _*ℤ_, -ℤ-+ℤ-cancel}
 use lib.Ieee.{Float, nan, binary64, fits, ofBits}
 use lib.Ieee.Fits.{sub-fits, ofInt-fits}
 use lib.Ieee.Scale.{finite}
@@ -33,7 +33,7 @@ use Rattle.cell.specs.Refusals.{firstRow, pointsRefused, sizeRefused, numberRef
 use Rattle.cell.proofs.Refusals.{or-none, any-none, all-in-range, tame-within, counted}
 use Rattle.local.specs.Local.{wholeOf, originOf, movedBy, lostOf, inexact, staysBehind, moveRefused}
 use Rattle.local.specs.Steps.{Whole}
-use Rattle.local.proofs.Exact.{whole-is, whole-near, whole-small, not-lost, minus-zero-moves-nothing, moved-exactly}
+use Rattle.local.proofs.Exact.{whole-is, whole-near, whole-small, not-lost, less-zero-moves-nothing, moved-exactly}
 use Rattle.volume.specs.Triangles.{trianglesOf}
 use Rattle.refusals.specs.Refusals.{firstRefusal, listRefusal, localRefusal, cellRefusal}
 use Rattle.refusals.proofs.Refusals.{list-points, list-counted, list-numbers, local-zero}
@@ -91,17 +91,14 @@ nothing-lost : (x : ℤ) → (x -ℤ pos 0) -ℤ x ≡ pos 0
 nothing-lost x = ring (x ∷ []) ((var 0 ⊕ ⊖ (con (pos 0))) ⊕ ⊖ (var 0)) (con (pos 0)) tt
 
 -- a number that stays as it is where 0 is taken off loses nothing by it
-minus-zero-exact : (x : Float) → x -f zero64 ≡ x → inexact x zero64 ≡ false
+less-zero-exact : (x : Float) → x -f zero64 ≡ x → inexact x zero64 ≡ false
 unfolding inexact lostOf
-minus-zero-exact x e = rw (e, zero-exact, nothing-lost)
+less-zero-exact x e = rw (e, zero-exact, nothing-lost)
 
 -- a place moved and moved back
-back : (a b : ℤ) → (a -ℤ b) +ℤ b ≡ a
-back a b = ring (a ∷ b ∷ []) ((var 0 ⊕ ⊖ (var 1)) ⊕ var 1) (var 0) tt
-
 moved-back : (q o : V3) → plus (less q o) o ≡ q
 unfolding less plus
-moved-back q o = λ i. record { x = back (q .x) (o .x) i; y = back (q .y) (o .y) i; z = back (q .z) (o .z) i }
+moved-back q o = λ i. record { x = -ℤ-+ℤ-cancel (q .x) (o .x) i; y = -ℤ-+ℤ-cancel (q .y) (o .y) i; z = -ℤ-+ℤ-cancel (q .z) (o .z) i }
 
 -- ---- corners that are vertices
 -- a corner that a list does not have is read as 0, which is a vertex where there is one
@@ -285,7 +282,7 @@ module _ (coords : List Float) (ok : localRefusal coords ≡ 0) where
 
   -- where 0 is taken off, a moved coordinate stays bit for bit
   still-at : (v : ℕ) → v < length vs → (k : ℕ) → k < 3 → at (vertexOf (moved coords) v) k -f zero64 ≡ at (vertexOf (moved coords) v) k
-  still-at v h k l = minus-zero-moves-nothing (at (vertexOf (moved coords) v) k) (moved-fits v h k l) (moved-finite v h k l)
+  still-at v h k l = less-zero-moves-nothing (at (vertexOf (moved coords) v) k) (moved-fits v h k l) (moved-finite v h k l)
 
   still-vertex : (v : ℕ) → v < length vs → minusOf 3 (vertexOf (moved coords) v) nowhere ≡ vertexOf (moved coords) v
   unfolding minusOf
@@ -344,7 +341,7 @@ module _ (coords : List Float) (ok : localRefusal coords ≡ 0) where
   moves-again v h = rw (exact-again 0 (omega arith), exact-again 1 (omega arith), exact-again 2 (omega arith))
     where
       exact-again : (k : ℕ) → k < 3 → inexact (at (vertexOf (moved coords) v) k) zero64 ≡ false
-      exact-again k l = minus-zero-exact (at (vertexOf (moved coords) v) k) (still-at v h k l)
+      exact-again k l = less-zero-exact (at (vertexOf (moved coords) v) k) (still-at v h k l)
 
   none-stays-behind : anyOf (staysBehind nowhere) (moved coords) ≡ false
   none-stays-behind =

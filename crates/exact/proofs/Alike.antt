@@ -9,7 +9,7 @@ use Rattle.places.specs.Ring.{sides}
 use Rattle.places.specs.Loops.{oneIf}
 use Rattle.exact.specs.Sides.{allSides, fromTo, count, runs, Closed}
 use Rattle.exact.specs.Space.{V3, sum, plus, area, crossX, crossY, crossZ}
-use Rattle.exact.proofs.Ring.{neg-unique}
+use Rattle.exact.proofs.Ring.{minus-turned, no-difference}
 use Rattle.exact.proofs.Poly.{var, _⊕_, _⊗_, ⊖, ring}
 use Rattle.exact.proofs.Balance.{Anti, sum-append, anti-zero, and-comm}
 
@@ -25,13 +25,10 @@ sum-faces w (f ∷ fs) gs =
 abbrev net : ℕ → ℕ → ℕ → ℕ → ℤ
 net i j u x = pos (oneIf (fromTo i j (u, x))) -ℤ pos (oneIf (fromTo j i (u, x)))
 
-flip : (a b : ℤ) → a -ℤ b ≡ negℤ (b -ℤ a)
-flip a b = ring (a ∷ b ∷ []) (var 0 ⊕ ⊖ (var 1)) (⊖ (var 1 ⊕ ⊖ (var 0))) tt
-
 net-anti : (i j : ℕ) → Anti (net i j)
 net-anti i j u x =
     rw (and-comm (eqb x i) (eqb u j), and-comm (eqb x j) (eqb u i))
-    (flip (pos (oneIf (fromTo i j (u, x)))) (pos (oneIf (fromTo j i (u, x)))))
+    (minus-turned (pos (oneIf (fromTo i j (u, x)))) (pos (oneIf (fromTo j i (u, x)))))
 
 apart : (a b c d : ℤ) → (a -ℤ b) +ℤ (c -ℤ d) ≡ (a +ℤ c) -ℤ (b +ℤ d)
 apart a b c d = ring (a ∷ b ∷ c ∷ d ∷ []) ((var 0 ⊕ ⊖ (var 1)) ⊕ (var 2 ⊕ ⊖ (var 3))) ((var 0 ⊕ var 2) ⊕ ⊖ (var 1 ⊕ var 3)) tt
@@ -42,7 +39,7 @@ net-sum i j (e ∷ l) =
     rw (net-sum i j l) (apart (pos (oneIf (fromTo i j e))) (pos (oneIf (fromTo j i e))) (pos (count i j l)) (pos (count j i l)))
 
 level : (a b : ℕ) → pos a -ℤ pos b ≡ pos 0 → a ≡ b
-level a b h = ap natAbs (neg-unique (pos a) (negℤ (pos b)) h ∙ negℤ-negℤ (pos b))
+level a b h = ap natAbs (no-difference (pos a) (pos b) h)
 
 fourfold : (a b e f : ℤ) → (a +ℤ f) -ℤ (b +ℤ e) ≡ (a -ℤ b) -ℤ (e -ℤ f)
 fourfold a b e f = ring (a ∷ b ∷ e ∷ f ∷ []) ((var 0 ⊕ var 3) ⊕ ⊖ (var 1 ⊕ var 2)) ((var 0 ⊕ ⊖ (var 1)) ⊕ ⊖ (var 2 ⊕ ⊖ (var 3))) tt

@@ -25,7 +25,7 @@ pub record TriangleMoves (at at′ : ℕ → V3) (o : V3) (t : List ℕ) : Type 
 twice : (a o p : ℤ) → (a -ℤ o) -ℤ p ≡ a -ℤ (p +ℤ o)
 twice a o p = ring (a ∷ o ∷ p ∷ []) ((var 0 ⊕ ⊖ (var 1)) ⊕ ⊖ (var 2)) (var 0 ⊕ ⊖ (var 2 ⊕ var 1)) tt
 
-pub less-twice : (a o p : V3) → less (less a o) p ≡ less a (plus p o)
+less-twice : (a o p : V3) → less (less a o) p ≡ less a (plus p o)
 unfolding less plus
 less-twice a o p = λ i. record {
   x = twice (a .x) (o .x) (p .x) i;

@@ -14,10 +14,11 @@ use lib.Ieee.{Float, Format, prec, emax, low, size, neg, add, sub, eq, fits}
 use lib.Ieee.Digits.{size-lt, size-le}
 use lib.Ieee.Fits.{two, neg-fits, add-fits, sub-fits, eq→eqb}
 use Rattle.exact.specs.Scaled.{exactIn}
+use Rattle.exact.proofs.Ring.{no-difference}
 use Rattle.exact.proofs.Poly.{var, con, _⊕_, ⊖, ring}
 use Rattle.floats.proofs.Grid.{OnGrid}
 use Rattle.floats.proofs.Within.{Within, within-neg, within-add, within-sub, within-finite, within-to}
-use Rattle.local.proofs.Integers.{size-sum, minus-zero, size-zero, Multiple, multiple-sum, multiple-neg}
+use Rattle.local.proofs.Integers.{size-sum, size-zero, Multiple, multiple-sum, multiple-neg}
 use Rattle.local.proofs.InUnits.{exact-neg, size-on-grid, Rounding, add-in-units, eq-units}
 use Rattle.local.proofs.Rounded.{Near, near, size-both, sum-exact}
 
@@ -84,7 +85,7 @@ module _ (f : Format) (x o : Float) (a : ℕ) (few : a + 2 ≤ prec f) (fine : a
       spare : (z p l : ℕ) → a + 2 ≤ p → z ≤ a + 2 + l → z - p ≤ l
       spare z p l g h = omega arith
 
-  -- The rounded difference and o together have at most `prec` digits. Where x has no digit below 2 ^ drops, neither has the exact
+  -- The sum of the rounded difference and o has at most `prec` digits. Where x has no digit below 2 ^ drops, neither has the exact
   -- difference, which is not rounded then, and the sum is x. Elsewhere x is so small that the sum stays below 2 ^ (prec + drops).
   module _ (c : ℕ) (whole : natAbs (exactIn f o) ≡ c * 2 ^ low f) where
     o-multiple : Multiple (2 ^ drops) (exactIn f o)
@@ -133,7 +134,7 @@ module _ (f : Format) (x o : Float) (a : ℕ) (few : a + 2 ≤ prec f) (fine : a
         regroup : (d x o : ℤ) → (d -ℤ (x -ℤ o)) +ℤ x ≡ d +ℤ o
         regroup d x o = ring (d ∷ x ∷ o ∷ []) ((var 0 ⊕ ⊖ (var 1 ⊕ ⊖ (var 2))) ⊕ var 1) (var 0 ⊕ var 2) tt
 
-    pub back-on-grid : OnGrid f (natAbs (rounded-to +ℤ exactIn f o))
+    back-on-grid : OnGrid f (natAbs (rounded-to +ℤ exactIn f o))
     back-on-grid =
         let (m, j, M, e) = size-on-grid f x hx in
         go m j M e (decLe drops j)
@@ -143,7 +144,7 @@ module _ (f : Format) (x o : Float) (a : ℕ) (few : a + 2 ≤ prec f) (fine : a
         go m j M e (yes h) = nothing-below (multiple-of-power (exactIn f x) m j drops h e)
         go m j M e (no h) = let l : j < drops = omega arith in small m j M e l
 
-    pub back-exact : exactIn f (add f (sub f x o) o) ≡ rounded-to +ℤ exactIn f o
+    back-exact : exactIn f (add f (sub f x o) o) ≡ rounded-to +ℤ exactIn f o
     back-exact =
         let n : a + 1 + 1 ≤ emax f = omega arith in
         let l : a + 1 ≤ emax f = omega arith in
@@ -174,4 +175,4 @@ module _ (f : Format) (x o : Float) (a : ℕ) (few : a + 2 ≤ prec f) (fine : a
 
         again : (x o d : ℤ) → natAbs ((x -ℤ o) -ℤ d) ≡ 0 → d +ℤ o ≡ x
         again x o d e =
-            ap (λ (v : ℤ). v +ℤ o) (sym (minus-zero (x -ℤ o) d (size-zero ((x -ℤ o) -ℤ d) e))) ∙ -ℤ-+ℤ-cancel x o
+            ap (λ (v : ℤ). v +ℤ o) (sym (no-difference (x -ℤ o) d (size-zero ((x -ℤ o) -ℤ d) e))) ∙ -ℤ-+ℤ-cancel x o

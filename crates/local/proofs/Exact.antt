@@ -17,14 +17,15 @@ use Rattle.floats.proofs.Grid.{OnGrid}
 use Rattle.floats.proofs.Within.{Within, within-to}
 use Rattle.exact.specs.Scaled.{signed, exactIn, exactOf}
 use Rattle.exact.proofs.Scaled.{size-of}
+use Rattle.exact.proofs.Ring.{no-difference}
 use Rattle.cell.specs.Refusals.{limit, outOfRange}
 use Rattle.cell.proofs.Refusals.{limit-value, tame-within}
 use Rattle.local.specs.Local.{wholeOf, lostOf, inexact}
 use Rattle.local.specs.Steps.{Whole}
-use Rattle.local.proofs.Integers.{minus-zero, size-zero}
+use Rattle.local.proofs.Integers.{size-zero}
 use Rattle.local.proofs.InUnits.{size-on-grid}
 use Rattle.local.proofs.AddedBack.{difference-exact, back-tells}
-use Rattle.local.proofs.Itself.{minus-zero-is}
+use Rattle.local.proofs.Itself.{less-zero-is}
 use Rattle.local.proofs.WholePart.{wholePart, part-within, part-is, part-near, part-small, whole-exact, whole-within, within-top}
 use Rattle.local.proofs.WholePart.{within-bottom, within-under}
 
@@ -119,9 +120,10 @@ module _ (x o : Float) (hx : T (fits binary64 x)) (ho : T (fits binary64 o)) (rx
 pub not-lost : (x o : Float) → inexact x o ≡ false → exactOf (x -f o) ≡ exactOf x -ℤ exactOf o
 unfolding inexact lostOf
 not-lost x o h =
-    sym (minus-zero (exactOf x -ℤ exactOf o) (exactOf (x -f o)) (size-zero _ (eqb-true (lostOf x o) 0 (not-false (eqb (lostOf x o) 0) h))))
+    let nothing = eqb-true (lostOf x o) 0 (not-false (eqb (lostOf x o) 0) h) in
+    sym (no-difference (exactOf x -ℤ exactOf o) (exactOf (x -f o)) (size-zero _ nothing))
 
 -- taking +0 off moves nothing, bit for bit
-pub minus-zero-moves-nothing : (x : Float) → T (fits binary64 x) → T (finite x) → x -f zero64 ≡ x
+pub less-zero-moves-nothing : (x : Float) → T (fits binary64 x) → T (finite x) → x -f zero64 ≡ x
 unfolding ofBits
-minus-zero-moves-nothing x h g = minus-zero-is binary64 x h g
+less-zero-moves-nothing x h g = less-zero-is binary64 x h g

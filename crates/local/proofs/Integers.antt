@@ -1,4 +1,5 @@
--- A whole number is its size with a sign: the sum of two goes by their signs, and a size is at most the sum of the sizes.
+-- A whole number is its size with a sign: the sum of two goes by their signs, and the size of a sum is at most the sum of the sizes.
+-- The size of a whole number is its magnitude here; `size` of lib.Ieee counts binary digits.
 use mathlib.Core.Path.{_≡_, refl, sym, ap, _∙_}
 use mathlib.Core.Bool.{Bool, true, false, not, _&&_, cond}
 use Prim.Native.Nat.{ℕ, zero, suc, _+_, _-_, _*_, _≤_}
@@ -9,22 +10,15 @@ use borrow.Author.Tests.{le-ltb}
 use lib.Dec.{T, ltb}
 use lib.IntN.{ℤ, pos, negsuc, negℤ, natAbs, subℕ, _+ℤ_, _-ℤ_, _*ℤ_, negℤ-negℤ, negℤ-+ℤ, +ℤ-comm}
 use Rattle.exact.specs.Scaled.{signed}
-use Rattle.exact.proofs.Ring.{*ℤ-dist-r, neg-unique}
+use Rattle.exact.proofs.Ring.{*ℤ-dist-r, minus-turned}
 
 -- ---- differences
-pub minus-more : (a b : ℕ) → b ≤ a → pos a -ℤ pos b ≡ pos (a - b)
+minus-more : (a b : ℕ) → b ≤ a → pos a -ℤ pos b ≡ pos (a - b)
 minus-more a zero h = ap pos (omega arith)
 minus-more a (suc b) h = rw (le-ltb a (suc b) h)
 
-minus-turned : (y z : ℤ) → y -ℤ z ≡ negℤ (z -ℤ y)
-minus-turned y z = sym (negℤ-+ℤ z (negℤ y) ∙ ap (λ v. negℤ z +ℤ v) (negℤ-negℤ y) ∙ +ℤ-comm (negℤ z) y)
-
-pub minus-less : (a b : ℕ) → a ≤ b → pos a -ℤ pos b ≡ negℤ (pos (b - a))
+minus-less : (a b : ℕ) → a ≤ b → pos a -ℤ pos b ≡ negℤ (pos (b - a))
 minus-less a b h = minus-turned (pos a) (pos b) ∙ ap negℤ (minus-more b a h)
-
--- what differs by nothing is equal
-pub minus-zero : (y z : ℤ) → y -ℤ z ≡ pos 0 → y ≡ z
-minus-zero y z e = neg-unique y (negℤ z) e ∙ negℤ-negℤ z
 
 pub size-zero : (z : ℤ) → natAbs z ≡ 0 → z ≡ pos 0
 size-zero (pos n) e = ap pos e
@@ -50,7 +44,7 @@ sign-of-zero true true n h = refl
 sign-of-zero true false n h = rw (h tt)
 
 -- ---- sizes
-pub size-neg : (z : ℤ) → natAbs (negℤ z) ≡ natAbs z
+size-neg : (z : ℤ) → natAbs (negℤ z) ≡ natAbs z
 size-neg (pos zero) = refl
 size-neg (pos (suc n)) = refl
 size-neg (negsuc n) = refl

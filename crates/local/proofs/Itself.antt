@@ -45,7 +45,7 @@ module _ (f : Format) where
       cross : m * up e * l * down d ≡ n * up d * l * down e
       cross = through (m * up e) (n * up d) (down e) (down d) l (v .1) (w .1)
 
-  pub one-number : (x y : Float) (s : Bool) (a c : ℕ) → 0 < c → T (fits f x) → T (fits f y) → HasValue x s a c → HasValue y s a c → x ≡ y
+  one-number : (x y : Float) (s : Bool) (a c : ℕ) → 0 < c → T (fits f x) → T (fits f y) → HasValue x s a c → HasValue y s a c → x ≡ y
   one-number x y s a c C h k v w =
       sym (ofBits-toBits f x h) ∙ ap (ofBits f) (same-bits x y s a c C v w) ∙ ofBits-toBits f y k
 
@@ -82,13 +82,13 @@ module _ (f : Format) where
           (let g = ap (λ (z : ℕ). z * l) p in let h = ap (λ (z : ℕ). z * c) q in omega arith)
 
   -- ---- less +0
-  pub minus-zero-is : (x : Float) → T (fits f x) → T (finite x) → sub f x (fin false 0 (pos 0)) ≡ x
+  pub less-zero-is : (x : Float) → T (fits f x) → T (finite x) → sub f x (fin false 0 (pos 0)) ≡ x
   unfolding sub add neg sum
-  minus-zero-is nan t g = absurd g
-  minus-zero-is (inf s) t g = absurd g
-  minus-zero-is (fin true m e) t g =
+  less-zero-is nan t g = absurd g
+  less-zero-is (inf s) t g = absurd g
+  less-zero-is (fin true m e) t g =
       rounds-to-itself true m e (m * up e * 1 + 0 * 1 * down e) (down e * 1) t (mul-pos (down-pos e) (omega arith)) (omega arith)
-  minus-zero-is (fin false m e) t g = go (ltb (m * up e * 1) (0 * 1 * down e)) (ltb→lt (m * up e * 1) (0 * 1 * down e))
+  less-zero-is (fin false m e) t g = go (ltb (m * up e * 1) (0 * 1 * down e)) (ltb→lt (m * up e * 1) (0 * 1 * down e))
     where
       go : (less : Bool) → (T less → m * up e * 1 < 0 * 1 * down e)
           → cond less (round f true (0 * 1 * down e - m * up e * 1) (down e * 1))

@@ -1,5 +1,5 @@
 -- What the functions of this crate ask of each other; no contract of a public entry speaks of it.
-use Prim.Native.Nat.{ℕ, _*_, _^_, _≤_}
+use Prim.Native.Nat.{ℕ, _*_, _^_}
 use mathlib.Core.Path.{_≡_}
 use mathlib.Core.Bool.{Bool, false}
 use lib.Ieee.{Float}

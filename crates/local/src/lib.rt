@@ -5,7 +5,7 @@ ghost use Prim.Native.Nat.{_<_, _%_};
 ghost use lib.ListN.{length};
 ghost use Rattle.places.specs.Lent.{old, new};
 ghost use Rattle.places.specs.Stored.{joined};
-ghost use Rattle.flat.specs.Points.{verticesOf, minusOf};
+ghost use Rattle.flat.specs.Points.{verticesOf};
 ghost use Rattle.cell.specs.Refusals.{outOfRange, numberRefused};
 ghost use Rattle.local.specs.Local.{wholeOf, originOf, movedBy, inexact, staysBehind, moveRefused};
 ghost use Rattle.local.specs.Steps.{InRange, Whole, WholePoint};

@@ -1,8 +1,6 @@
 // Why the public entries refuse, 0 where they do not: each check in the order of SCOPE 3.
 ghost use mathlib.Core.Path.{_≡_};
-ghost use mathlib.Core.List.{[], _∷_};
 ghost use Prim.Native.Nat.{_-_, _<_};
-ghost use lib.Dec.{ltb};
 ghost use Rattle.places.specs.Lent.{old};
 ghost use Rattle.places.specs.Loops.{anyOf};
 ghost use Rattle.refusals.specs.Refusals.{listRefusal, localRefusal, pairsRefused, planeRefusal, cellRefusal, containsRefusal};

@@ -106,11 +106,11 @@ fn beside_a_power(random: &mut Random) -> f64 {
     any_sign(random) * clamped(f64::from_bits(bits))
 }
 
-/// Vertices of which one number, less the origin, has 53 binary digits or one more: the difference is
+/// Vertices of which one number, less the local origin, has 53 binary digits or one more: the difference is
 /// 2^53 and a little, or 2^53 less a little, in the number's own last digits.
 fn about_the_last_digit(random: &mut Random) -> Vec<[f64; 3]> {
     let digits = random.between(13, 53);
-    // Below 2^53 steps of 2^-digits, and with a half below 2^40.
+    // At most 2^53 steps of 2^-digits, and with a half below 2^40.
     let whole = random.between(1, (1 << (53 - digits)).min((1 << 40) - 1)) as i64;
     let steps = (1 << 53) - (whole << digits) + random.pick(&[-3, -1, 1, 3]);
     let (sign, axis) = (any_sign(random), random.below(3));
@@ -125,7 +125,7 @@ fn about_the_last_digit(random: &mut Random) -> Vec<[f64; 3]> {
 }
 
 /// Vertices of which every number can be moved but the very last: that has a digit of 2^-53 or less,
-/// and lies on the other side of 0 than the origin, which is 1 or more there.
+/// and lies on the other side of 0 than the local origin, which is at least 1 in magnitude there.
 fn last_stays_behind(random: &mut Random) -> Vec<[f64; 3]> {
     let mut points = many(random, |random| random.whole(1 << 20) / 8.0);
     points.truncate(MOST_VERTICES - 1);

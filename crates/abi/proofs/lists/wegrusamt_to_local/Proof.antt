@@ -1,5 +1,5 @@
--- `abi::lists::wegrusamt_to_local` meets its contract: where `out` is too short only the origin is asked for, and putting it refuses; else
--- the vertices are moved, and the vector is put at the front of `out`.
+-- `abi::lists::wegrusamt_to_local` meets its contract: where `out` is too short only the local origin is asked for, and putting it
+-- refuses; else the vertices are moved, and the vector is put at the front of `out`.
 use native.Mathlib.Omega.{arith}
 use Rattle.abi.proofs.Told.{local-short, local-long}
 use borrow.Author.Needs.{needs}

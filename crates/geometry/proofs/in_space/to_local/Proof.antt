@@ -1,5 +1,5 @@
 -- `geometry::in_space::to_local` meets its contract: a list that passes the checks comes in threes, has a vertex and no number out of
--- range; the room finds the origin and takes it off every vertex.
+-- range; the room finds the local origin and takes it off every vertex.
 use mathlib.Core.Path.{sym, _∙_}
 use Rattle.geometry.specs.declared.Place.{Place}
 use Rattle.geometry.specs.Points.{toLocalAnswer}

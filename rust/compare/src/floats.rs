@@ -55,10 +55,13 @@ fn of_one(calls: &mut Calls, x: f64) {
     calls.gave("of_pattern", ours::of_pattern(x.to_bits()), x);
 }
 
-/// Of two zeros Rust may answer either; ours must be the earlier.
+/// Of two zeros Rust may answer either; ours must be the earlier. Of a number and a signalling NaN Rust
+/// answers the number on some machines and a NaN on others; ours must answer the number, as Rust does
+/// on every machine where the NaN is quiet.
 fn of_two(calls: &mut Calls, x: f64, y: f64) {
     let tied = x == 0.0 && y == 0.0;
-    let (least, largest) = if tied { (x, x) } else { (x.min(y), x.max(y)) };
+    let [a, b] = [x, y].map(|number| if number.is_nan() { f64::NAN } else { number });
+    let (least, largest) = if tied { (x, x) } else { (a.min(b), a.max(b)) };
     calls.gave("least", ours::least(x, y), least);
     calls.gave("largest", ours::largest(x, y), largest);
     calls.gave("length", ours::length(x, y), (x * x + y * y).sqrt());

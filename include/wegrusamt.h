@@ -177,8 +177,8 @@ uint8_t wegrusamt_list_bounds(const double *coords, size_t coords_len, double *o
 /* Moves the vertices of a cell to a local origin, in their own list: takes one vector of whole numbers off each, the
  * first vertex's coordinates brought to whole numbers towards zero. Every difference is exact, so a cell keeps its
  * exact volume over the same triangles (docs/LIMITS.md); where one would be rounded the call is refused by 15, after
- * 1 and 2, and the list is as it was. Of a list wider than 2^40 a moved number can be above 2^40, and calls then
- * refuse it by 2. out: the vector x, y, z. */
+ * 1 and 2, and the list is as it was. Of a list wider than 2^40 a moved number can be above 2^40 in magnitude, and
+ * calls then refuse it by 2. out: the vector x, y, z. */
 uint8_t wegrusamt_to_local(double *coords, size_t coords_len, double *out, size_t out_len);
 
 /* Of the plane: the signed area, the mean, the box (least x, y, largest x, y). out: 1, 2 and 4 numbers. No points

@@ -20,8 +20,8 @@ fn main() {
 
     if !archive.is_file() {
         println!(
-            "cargo::error={} is missing: run `rt staticlib {LIBRARY}` at the top of the repository, \
-             or set {FOLDER_VARIABLE} to the folder that holds it",
+            "cargo::error={} is missing: run `rust/archive` at the top of the repository, and set \
+             {FOLDER_VARIABLE} to the folder that it prints where that is not target/staticlib",
             archive.display()
         );
         return;

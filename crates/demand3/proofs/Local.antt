@@ -42,8 +42,8 @@ use Rattle.geometry.specs.declared.Place.{Place}
 use Rattle.geometry.specs.Cells.{closedAnswer}
 use Rattle.geometry.specs.Points.{toLocalAnswer}
 use Rattle.demand3.specs.Demand3.{exactPoint, placeOf, Premises}
-use Rattle.demand3.specs.Local.{unmoved, moved, vector, F64s, Corners, ToLocalMoves, EntryMoves, MovedTwice, ClosedAlike, AllExact}
-use Rattle.demand3.specs.Local.{Fifteen}
+use Rattle.demand3.specs.Local.{unmoved, moved, vector, F64s, Corners, ToLocalMoves, EntryMoves, MovedTwice, MovedBeyond, ClosedAlike}
+use Rattle.demand3.specs.Local.{AllExact, Fifteen}
 use Rattle.demand3.proofs.Demand3.{same-sum}
 use Rattle.demand3.proofs.Refused.{second}
 use Rattle.demand3.proofs.Exact.{signed-times}
@@ -134,6 +134,10 @@ answer-is : (coords : List Float) → localRefusal coords ≡ 0
     → toLocalAnswer coords ≡ (Place.Is (named3 (originOf (unmoved coords))), joined (moved coords))
 unfolding toLocalAnswer
 answer-is coords ok = rw (eq-eqb (localRefusal coords) 0 ok)
+
+refused-is : (coords : List Float) → localRefusal coords ≡ 2 → toLocalAnswer coords ≡ (Place.Refused 2, coords)
+unfolding toLocalAnswer
+refused-is coords why = rw why
 
 -- a list that passes 1 and 2 has a vertex, and the local origin is of whole numbers
 module _ (coords : List Float) (list : listRefusal coords ≡ 0) where
@@ -361,6 +365,10 @@ module _ (coords : List Float) (ok : localRefusal coords ≡ 0) where
       answer-is (joined (moved coords)) (not-refused (joined (moved coords)) (passes-again f64s h))
       ∙ rw (vertices-again, still-origin f64s, moved-twice)
 
+  refused-again : numberRefused (joined (moved coords)) ≡ true → localRefusal (joined (moved coords)) ≡ 2
+  unfolding localRefusal listRefusal firstRefusal firstRow
+  refused-again h = rw (points-again, passes coords ok .points, h)
+
   -- ---- a cell with that list is refused as the cell itself is
   cell-again : (corners ends : List ℕ) → numberRefused (joined (moved coords)) ≡ false
       → cellRefusal (joined (moved coords)) corners ends ≡ cellRefusal coords corners ends
@@ -419,6 +427,11 @@ pub moved-twice-is-once : MovedTwice
 moved-twice-is-once coords f64s ok h =
     let e = ap (λ r. r .1) (answer-is coords ok) in
     rw e (answered-again coords ok f64s (rw e at h))
+
+pub moved-beyond : MovedBeyond
+moved-beyond coords ok h =
+    let e = ap (λ r. r .1) (answer-is coords ok) in
+    rw e (refused-is (joined (moved coords)) (refused-again coords ok (rw e at h)))
 
 pub closed-alike : ClosedAlike
 unfolding closedAnswer

@@ -2,7 +2,7 @@
 -- numbers scaled by 2 ^ 1074. It holds of every list that `to_local` does not refuse.
 use mathlib.Core.Path.{_≡_}
 use mathlib.Core.Logic.{_↔_}
-use mathlib.Core.Bool.{false}
+use mathlib.Core.Bool.{true, false}
 use mathlib.Core.List.{List, [], _∷_}
 use Prim.Native.Nat.{ℕ, _*_, _^_, _<_}
 use lib.Dec.{T}
@@ -82,12 +82,17 @@ EntryMoves =
     (coords : List Float) → localRefusal coords ≡ 0
     → (toLocalAnswer coords .0 ≡ Place.Is (named3 (originOf (unmoved coords)))) × (verticesOf (toLocalAnswer coords .1) ≡ moved coords)
 
--- a second call answers 0, 0, 0 and leaves the list, unless the cell is so wide that a moved coordinate is beyond 2 ^ 40: then the moved
--- list is refused 2
+-- a second call answers 0, 0, 0 and leaves the list, unless the cell is so wide that a moved coordinate is beyond 2 ^ 40
 abbrev pub MovedTwice : Type 0
 MovedTwice =
     (coords : List Float) → F64s coords → localRefusal coords ≡ 0 → let list = toLocalAnswer coords .1 in numberRefused list ≡ false
     → toLocalAnswer list ≡ (Place.Is (named3 (pointBy 3 (λ k. zero64))), list)
+
+-- in that case it refuses the moved list 2, and leaves it
+abbrev pub MovedBeyond : Type 0
+MovedBeyond =
+    (coords : List Float) → localRefusal coords ≡ 0 → let list = toLocalAnswer coords .1 in numberRefused list ≡ true
+    → toLocalAnswer list ≡ (Place.Refused 2, list)
 
 -- closedness is answered alike, with the same exception
 abbrev pub ClosedAlike : Type 0

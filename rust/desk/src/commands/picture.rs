@@ -1,0 +1,64 @@
+//! `picture`: drawings of the cells, and the page with the survey's table.
+
+use std::path::Path;
+
+use super::{PictureWish, Status, about, loaded};
+use crate::files::write_whole;
+use crate::findings::{Findings, examine};
+use crate::model::Piece;
+use crate::picture::{Drawn, Table, TableRow, page, svg};
+use crate::words::{Report, Wish, headings, title};
+
+/// The most cells that one picture holds.
+const MOST_CELLS: usize = 16;
+
+pub(super) fn run(wish: &PictureWish) -> Result<Status, String> {
+    let kind = wish.out.extension().and_then(|ending| ending.to_str()).map(str::to_ascii_lowercase);
+    let as_page = match kind.as_deref() {
+        Some("svg") => false,
+        Some("html") => true,
+        _ => return Err(about(&wish.out, "the name does not end in .svg or .html")),
+    };
+    let drawing = loaded(&wish.file)?.drawing;
+    let pieces = chosen(&drawing.pieces, wish).map_err(|bad| about(&wish.file, bad))?;
+    let findings: Vec<Findings> = pieces.iter().map(|piece| examine(&piece.cell)).collect();
+    let name = file_name(&wish.file);
+    let reports = pieces.iter().zip(&findings).map(|(&piece, findings)| Report { file: &name, piece, findings });
+    let reports: Vec<Report<'_>> = reports.collect();
+    let drawn = reports.iter().map(|report| Drawn {
+        title: title(report.file, report.piece),
+        piece: report.piece,
+        findings: report.findings,
+    });
+    let drawn: Vec<Drawn<'_>> = drawn.collect();
+    let text = if as_page { page(&name, &drawn, &table(&reports)) } else { svg(&drawn) };
+    write_whole(&wish.out, text.as_bytes(), wish.force).map_err(|bad| about(&wish.out, bad))?;
+    Ok(Status::Well)
+}
+
+/// The file's name without its folders: a picture is passed on without them.
+fn file_name(path: &Path) -> String {
+    path.file_name().unwrap_or_default().to_string_lossy().into_owned()
+}
+
+/// The cells that are drawn: the one that is named, or all.
+fn chosen<'a>(pieces: &'a [Piece], wish: &PictureWish) -> Result<Vec<&'a Piece>, String> {
+    let Some(name) = &wish.cell else {
+        if pieces.len() > MOST_CELLS {
+            return Err(format!(
+                "the file has {} cells, and a picture holds {MOST_CELLS}: name one with --cell",
+                pieces.len()
+            ));
+        }
+        return Ok(pieces.iter().collect());
+    };
+    let named: Vec<&Piece> = pieces.iter().filter(|piece| piece.name.as_ref() == Some(name)).collect();
+    if named.is_empty() { Err(format!("no cell has the name '{name}'")) } else { Ok(named) }
+}
+
+/// The survey's table for the page.
+fn table(reports: &[Report<'_>]) -> Table {
+    let wish = Wish { bits: true, all: true };
+    let rows = reports.iter().map(|report| TableRow { columns: report.columns(wish), faults: report.faults(wish) });
+    Table { heading: headings(wish), rows: rows.collect() }
+}

@@ -1,0 +1,198 @@
+//! Files: found in folders, read within bounds, written whole or not at all.
+
+use std::fs::{self, File, OpenOptions};
+use std::io::{self, Read, Write};
+use std::path::{Path, PathBuf};
+use std::process;
+
+use crate::formats::Format;
+use crate::model::Drawing;
+
+/// The most bytes of a file that is read: 1 GiB.
+pub const MOST_BYTES: u64 = 1 << 30;
+
+/// A file that has been read.
+pub struct Loaded {
+    /// Its format.
+    pub format: Format,
+    /// Its bytes.
+    pub bytes: Vec<u8>,
+    /// What they hold.
+    pub drawing: Drawing,
+}
+
+/// Reads a file, or says why it cannot be read.
+pub fn load(path: &Path) -> Result<Loaded, String> {
+    let format = format_of(path)?;
+    let bytes = read_bytes(path)?;
+    let drawing = format.read(&bytes).map_err(|bad| bad.to_string())?;
+    Ok(Loaded { format, bytes, drawing })
+}
+
+/// The format of a file, or what is wrong with its name.
+pub fn format_of(path: &Path) -> Result<Format, String> {
+    Format::of_path(path).ok_or_else(|| format!("the name does not end in {}", endings()))
+}
+
+fn endings() -> String {
+    let [first @ .., last] = Format::ALL.map(|format| format!(".{}", format.ending()));
+    format!("{} or {last}", first.join(", "))
+}
+
+fn read_bytes(path: &Path) -> Result<Vec<u8>, String> {
+    let mut bytes = Vec::new();
+    let file = File::open(path).map_err(|error| error.to_string())?;
+    // A device may have no end, and a file may grow while it is read.
+    file.take(MOST_BYTES + 1).read_to_end(&mut bytes).map_err(|error| error.to_string())?;
+    if bytes.len() as u64 > MOST_BYTES {
+        return Err("the file has more than 1 GiB".to_string());
+    }
+    Ok(bytes)
+}
+
+/// A file that was named, or found in a folder that was; or why a folder gives none.
+pub type Found = Result<PathBuf, (PathBuf, String)>;
+
+/// The files that are named: of a folder all in it and below it that have an ending of ours, in the
+/// order of their names.
+pub fn found(named: &[PathBuf]) -> Vec<Found> {
+    let mut all = Vec::new();
+    for path in named {
+        if !path.is_dir() {
+            all.push(Ok(path.clone()));
+            continue;
+        }
+        let before = all.len();
+        walk(path, &mut all);
+        if all.len() == before {
+            let none = format!("the folder holds no file whose name ends in {}", endings());
+            all.push(Err((path.clone(), none)));
+        }
+    }
+    all
+}
+
+fn walk(folder: &Path, all: &mut Vec<Found>) {
+    let entries = fs::read_dir(folder).and_then(|entries| entries.collect::<io::Result<Vec<_>>>());
+    let mut entries = match entries {
+        Ok(entries) => entries,
+        Err(error) => return all.push(Err((folder.to_path_buf(), error.to_string()))),
+    };
+    entries.sort_by_key(fs::DirEntry::file_name);
+    for entry in entries {
+        let path = entry.path();
+        // The kind of a link is that of a link: a folder that links to one above it is not entered.
+        if entry.file_type().is_ok_and(|kind| kind.is_dir()) {
+            walk(&path, all);
+        } else if Format::of_path(&path).is_some() {
+            all.push(Ok(path));
+        }
+    }
+}
+
+/// Writes a file whole or not at all. One that is there is replaced only where that is allowed.
+pub fn write_whole(path: &Path, bytes: &[u8], replace: bool) -> Result<(), String> {
+    let there = fs::symlink_metadata(path).is_ok();
+    if there && !replace {
+        return Err("the file is there already; --force replaces it".to_string());
+    }
+    // What a link names is replaced, not the link.
+    let target = if there { path.canonicalize().map_err(|error| error.to_string())? } else { path.to_path_buf() };
+    if there && !target.is_file() {
+        return Err("that is no plain file".to_string());
+    }
+    let name = target.file_name().ok_or("that is no name of a file")?;
+    let part = target.with_file_name(format!(".{}.{}.part", name.to_string_lossy(), process::id()));
+    let written = write_part(&part, bytes, &target).and_then(|()| put_in_place(&part, &target, replace));
+    if written.is_err() {
+        // It may not be there; what went wrong before is what is told.
+        let _ = fs::remove_file(&part);
+    }
+    written.map_err(|error| error.to_string())
+}
+
+/// Writes the bytes to a file beside the target, with the target's permissions where it is there.
+fn write_part(part: &Path, bytes: &[u8], target: &Path) -> io::Result<()> {
+    let mut file = OpenOptions::new().write(true).create_new(true).open(part)?;
+    file.write_all(bytes)?;
+    if let Ok(known) = fs::metadata(target) {
+        file.set_permissions(known.permissions())?;
+    }
+    file.sync_all()
+}
+
+/// Gives the part its name. A link is made where nothing may be replaced, since it fails where the
+/// name has been taken meanwhile, as a renaming would not.
+fn put_in_place(part: &Path, target: &Path, replace: bool) -> io::Result<()> {
+    if replace {
+        return fs::rename(part, target);
+    }
+    match fs::hard_link(part, target) {
+        Ok(()) => fs::remove_file(part),
+        Err(error) if error.kind() == io::ErrorKind::AlreadyExists => Err(error),
+        // The file system has no links.
+        Err(_) => fs::rename(part, target),
+    }
+}
+
+#[cfg(test)]
+mod tests {
+    use super::*;
+
+    #[test]
+    fn a_file_is_replaced_only_where_that_is_allowed() {
+        let folder = tempfile::tempdir().unwrap();
+        let path = folder.path().join("a.obj");
+        write_whole(&path, b"one", false).unwrap();
+        let told = write_whole(&path, b"two", false).unwrap_err();
+        assert_eq!(told, "the file is there already; --force replaces it");
+        assert_eq!(fs::read(&path).unwrap(), b"one");
+        write_whole(&path, b"two", true).unwrap();
+        assert_eq!(fs::read(&path).unwrap(), b"two");
+        assert_eq!(fs::read_dir(folder.path()).unwrap().count(), 1);
+    }
+
+    #[test]
+    fn what_a_link_names_is_replaced() {
+        let folder = tempfile::tempdir().unwrap();
+        let [path, link] = ["a.obj", "link.obj"].map(|name| folder.path().join(name));
+        fs::write(&path, "one").unwrap();
+        std::os::unix::fs::symlink(&path, &link).unwrap();
+        write_whole(&link, b"two", true).unwrap();
+        assert_eq!(fs::read(&path).unwrap(), b"two");
+        assert!(fs::symlink_metadata(&link).unwrap().is_symlink());
+    }
+
+    #[test]
+    fn nothing_is_left_where_a_file_cannot_be_written() {
+        let folder = tempfile::tempdir().unwrap();
+        let told = write_whole(&folder.path().join("none/a.obj"), b"one", false).unwrap_err();
+        assert!(told.contains("No such file"), "{told}");
+        let told = write_whole(folder.path(), b"one", true).unwrap_err();
+        assert_eq!(told, "that is no plain file");
+        assert_eq!(fs::read_dir(folder.path()).unwrap().count(), 0);
+    }
+
+    #[test]
+    fn a_folder_gives_its_files_in_order() {
+        let folder = tempfile::tempdir().unwrap();
+        let path = |name: &str| folder.path().join(name);
+        fs::create_dir(path("b")).unwrap();
+        for name in ["c.stl", "a.OBJ", "b/z.ply", "b/y.cell", "notes.txt"] {
+            fs::write(path(name), "").unwrap();
+        }
+        std::os::unix::fs::symlink(folder.path(), path("b/up")).unwrap();
+        let expected = ["a.OBJ", "b/y.cell", "b/z.ply", "c.stl"].map(|name| Ok(path(name)));
+        assert_eq!(found(&[folder.path().to_path_buf()]), expected);
+        fs::create_dir(path("empty")).unwrap();
+        let told = found(&[path("empty")])[0].clone().unwrap_err().1;
+        assert_eq!(told, "the folder holds no file whose name ends in .obj, .off, .ply, .stl or .cell");
+    }
+
+    #[test]
+    fn a_file_without_an_end_is_not_read() {
+        // The limit holds memory to about 1 GiB; a device without an end shows that it is one.
+        let told = format_of(Path::new("/dev/zero")).unwrap_err();
+        assert_eq!(told, "the name does not end in .obj, .off, .ply, .stl or .cell");
+    }
+}

@@ -332,7 +332,7 @@ def obj(r):
         statements += [("name", k)] * (named and (k != now or chance(r, 0.2))) + items
         now = k
     text = list(obj_lines(r, statements, places, kind, [c[0] for c in cells]))
-    feed = r.choice([b"\n", b"\n", b"\r\n"])
+    feed = r.choice([b"\n", b"\n", b"\r\n", b"\r"])
     data = feed.join(line.replace(b"\n", feed) for line in text) + feed * chance(r, 0.9)
     kept = [c for c in cells if c[1] or c[2]]
     order = {n: i for i, (what, n) in reversed(list(enumerate(statements))) if what == "name"}
@@ -488,12 +488,12 @@ def stl_cell(r):
 
 
 def stl_text(r, cells):
-    indent, feed = r.choice(["", "  ", "\t"]), r.choice(["\n", "\n", "\r\n"])
+    indent, feed = r.choice(["", "  ", "\t"]), r.choice(["\n", "\n", "\r\n", "\r"])
     lines = []
     for name, vertices, faces in cells:
         lines.append(f"solid {name}" if name else "solid")
         for f in faces:
-            normal = r.choice(["0 0 1", "-0.5 0.5 0", "0 0 0", "nan nan nan", "1e-3 -2E+1 +3"])
+            normal = r.choice(["0 0 1", "-0.5 0.5 0", "0 0 0", "nan nan nan", "1e-3 -2E+1 +3", "-nan(ind) 1.#QNAN 1"])
             lines += [f"{indent}facet normal {normal}", f"{indent * 2}outer loop"]
             lines += [indent * 3 + "vertex " + " ".join(decimal(r, signed(r, x)) for x in vertices[c]) for c in f]
             lines += [f"{indent * 2}endloop", f"{indent}endfacet"] + [""] * chance(r, 0.02)
@@ -518,7 +518,8 @@ def stl(r):
     many = r.choice([1, 1, 1, 2, 3])
     names = [r.choice([None, *NAMES])] * many if chance(r, 0.1) else r.sample([None, *NAMES], many)
     cells = [(name, *stl_cell(r)) for name in names]
-    return Plan(".stl", stl_text(r, cells), cells)
+    read = [(name or (f"solid {k}" if many > 1 else None), vs, fs) for k, (name, vs, fs) in enumerate(cells, 1)]
+    return Plan(".stl", stl_text(r, cells), read)
 
 
 # ---- .cell

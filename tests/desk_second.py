@@ -42,13 +42,15 @@ WHOLE = re.compile(rb"[+-]?\d+")
 Word = namedtuple("Word", "text start end")
 
 
+LINE_END = re.compile(rb"\r\n|\n|\r")
+
+
 def lines(data, at=0, number=1):
-    """The number, the beginning and the end of each line, without what ends it."""
+    """The number, the beginning and the end of each line, without what ends it: a line feed, a carriage return, or both."""
     while at < len(data):
-        feed = data.find(b"\n", at)
-        stop = len(data) if feed < 0 else feed
-        yield number, at, stop - data[at:stop].endswith(b"\r")
-        at, number = stop + 1, number + 1
+        end = LINE_END.search(data, at)
+        yield number, at, end.start() if end else len(data)
+        at, number = end.end() if end else len(data), number + 1
 
 
 def words(data, start, end):
@@ -114,7 +116,8 @@ def obj_rows(data):
         if not goes_on:
             yield first, row
             row, first = [], 0
-    yield first, row
+    if first:
+        raise Unreadable("the file ends in a line that goes on")
 
 
 def obj_corner(word, before):
@@ -146,7 +149,10 @@ class Obj:
     def take(self, data, line, row):
         key = row[0].text
         if key == b"v":
+            if len(row) > 8:
+                raise Unreadable(f"line {line}: more than seven numbers")
             self.places.append(place(row[1:], line))
+            [number(w) for w in row[4:]]
             self.homes.append(dict(self.now))
         elif key == b"f":
             corners = [obj_corner(w, len(self.places)) for w in row[1:]]
@@ -193,6 +199,7 @@ def off_face(k, line, row):
     n = count(row[0])
     if len(row) <= n:
         raise Unreadable(f"line {line}: fewer corners than it says")
+    [number(w) for w in row[n + 1:]]
     return Face(k, line, [whole(w) for w in row[1:n + 1]], spans(row[1:n + 1]))
 
 
@@ -209,6 +216,7 @@ def off(data):
     if len(rows) != 1 + many + faces:
         raise Unreadable("the lines are more or fewer than the counts say")
     places = [place(row, line) for line, row in rows[1:many + 1]]
+    [number(w) for _, row in rows[1:many + 1] for w in row[3:]]
     return [alone(places, [off_face(k, *r) for k, r in enumerate(rows[many + 1:])])]
 
 
@@ -416,7 +424,8 @@ def stl_text(data):
             facets += 1
             facet(rows, solids[-1], facets)
         rows.take(b"endsolid")
-    return [s.cell() for s in solids]
+    cells = [s.cell() for s in solids]
+    return [c._replace(name=c.name or f"solid {k}") for k, c in enumerate(cells, 1)] if len(cells) > 1 else cells
 
 
 def stl(data):
@@ -513,6 +522,11 @@ def groups(face_list):
             yield group
 
 
+def surfaces(cell):
+    """How many groups have a face of three corners or more."""
+    return sum(any(len(cell.faces[k].corners) > 2 for k in group) for group in groups(rings(cell)))
+
+
 def against(cell):
     """Why turning cannot close the cell, or None; and the places of the faces that lie against the others."""
     if sides.closed(rings(cell)):
@@ -541,7 +555,7 @@ def told(cell):
     refused = table.refusal(lists(cell)) or None
     if refused is None:
         why, named = against(cell)
-        says.update(closed=sides.closed(rings(cell)), torn=torn(cell), unturnable=why,
+        says.update(closed=sides.closed(rings(cell)), torn=torn(cell), unturnable=why, groups=surfaces(cell),
                     against=[{"face": cell.faces[k].number, "line": cell.faces[k].line} for k in named])
     return {**says, "refused": refused}
 

@@ -24,7 +24,7 @@ pub struct Loaded {
 /// Reads a file, or says why it cannot be read.
 pub fn load(path: &Path) -> Result<Loaded, String> {
     let format = format_of(path)?;
-    let bytes = read_bytes(path)?;
+    let bytes = read_bytes(path, MOST_BYTES)?;
     let drawing = format.read(&bytes).map_err(|bad| bad.to_string())?;
     Ok(Loaded { format, bytes, drawing })
 }
@@ -39,15 +39,24 @@ fn endings() -> String {
     format!("{} or {last}", first.join(", "))
 }
 
-fn read_bytes(path: &Path) -> Result<Vec<u8>, String> {
+/// The bytes of a file, or that it has more than these.
+fn read_bytes(path: &Path, most: u64) -> Result<Vec<u8>, String> {
     let mut bytes = Vec::new();
     let file = File::open(path).map_err(|error| error.to_string())?;
-    // A device may have no end, and a file may grow while it is read.
-    file.take(MOST_BYTES + 1).read_to_end(&mut bytes).map_err(|error| error.to_string())?;
-    if bytes.len() as u64 > MOST_BYTES {
-        return Err("the file has more than 1 GiB".to_string());
+    let known = file.metadata().map_or(0, |known| known.len());
+    if known <= most {
+        // A device may have no end, and a file may grow while it is read.
+        file.take(most + 1).read_to_end(&mut bytes).map_err(|error| error.to_string())?;
+    }
+    if known > most || bytes.len() as u64 > most {
+        return Err(format!("the file has more than {most} bytes"));
     }
     Ok(bytes)
+}
+
+/// The size of a file. Of what is no plain file it is not known, and is taken to be the most.
+pub fn size(path: &Path) -> u64 {
+    fs::metadata(path).map_or(0, |known| if known.is_file() { known.len() } else { MOST_BYTES })
 }
 
 /// A file that was named, or found in a folder that was; or why a folder gives none.
@@ -84,8 +93,10 @@ fn walk(folder: &Path, all: &mut Vec<Found>) {
         // The kind of a link is that of a link: a folder that links to one above it is not entered.
         if entry.file_type().is_ok_and(|kind| kind.is_dir()) {
             walk(&path, all);
-        } else if Format::of_path(&path).is_some() {
-            all.push(Ok(path));
+        } else if Format::of_path(&path).is_some() && !path.is_dir() {
+            // A pipe would be waited for without end. A link to nothing is told of when it is read.
+            let waits = fs::metadata(&path).is_ok_and(|known| !known.is_file());
+            all.push(if waits { Err((path, "that is no plain file".to_string())) } else { Ok(path) });
         }
     }
 }
@@ -101,9 +112,17 @@ pub fn write_whole(path: &Path, bytes: &[u8], replace: bool) -> Result<(), Strin
     if there && !target.is_file() {
         return Err("that is no plain file".to_string());
     }
-    let name = target.file_name().ok_or("that is no name of a file")?;
-    let part = target.with_file_name(format!(".{}.{}.part", name.to_string_lossy(), process::id()));
-    let written = write_part(&part, bytes, &target).and_then(|()| put_in_place(&part, &target, replace));
+    target.file_name().ok_or("that is no name of a file")?;
+    let part = target.with_file_name(format!(".wegrusamt-{}.part", process::id()));
+    let mut file = OpenOptions::new().write(true).create_new(true).open(&part).map_err(|error| {
+        // The part is named where it is what stands in the way: it may be left from a run that was broken off.
+        if error.kind() == io::ErrorKind::AlreadyExists {
+            format!("{}: {error}", part.display())
+        } else {
+            error.to_string()
+        }
+    })?;
+    let written = fill(&mut file, bytes, &target).and_then(|()| put_in_place(&part, &target, replace));
     if written.is_err() {
         // It may not be there; what went wrong before is what is told.
         let _ = fs::remove_file(&part);
@@ -111,13 +130,12 @@ pub fn write_whole(path: &Path, bytes: &[u8], replace: bool) -> Result<(), Strin
     written.map_err(|error| error.to_string())
 }
 
-/// Writes the bytes to a file beside the target, with the target's permissions where it is there.
-fn write_part(part: &Path, bytes: &[u8], target: &Path) -> io::Result<()> {
-    let mut file = OpenOptions::new().write(true).create_new(true).open(part)?;
-    file.write_all(bytes)?;
+/// Writes the bytes to the part. It has the target's permissions before it has a byte, where the target is there.
+fn fill(file: &mut File, bytes: &[u8], target: &Path) -> io::Result<()> {
     if let Ok(known) = fs::metadata(target) {
         file.set_permissions(known.permissions())?;
     }
+    file.write_all(bytes)?;
     file.sync_all()
 }
 
@@ -130,7 +148,7 @@ fn put_in_place(part: &Path, target: &Path, replace: bool) -> io::Result<()> {
     match fs::hard_link(part, target) {
         Ok(()) => fs::remove_file(part),
         Err(error) if error.kind() == io::ErrorKind::AlreadyExists => Err(error),
-        // The file system has no links.
+        // The file system has no links. A file that has come up here meanwhile would be replaced.
         Err(_) => fs::rename(part, target),
     }
 }
@@ -191,8 +209,35 @@ mod tests {
 
     #[test]
     fn a_file_without_an_end_is_not_read() {
-        // The limit holds memory to about 1 GiB; a device without an end shows that it is one.
-        let told = format_of(Path::new("/dev/zero")).unwrap_err();
-        assert_eq!(told, "the name does not end in .obj, .off, .ply, .stl or .cell");
+        assert_eq!(read_bytes(Path::new("/dev/zero"), 1000).unwrap_err(), "the file has more than 1000 bytes");
+        let folder = tempfile::tempdir().unwrap();
+        let path = folder.path().join("a.obj");
+        fs::write(&path, [b'#'; 1001]).unwrap();
+        assert_eq!(read_bytes(&path, 1000).unwrap_err(), "the file has more than 1000 bytes");
+        assert_eq!(read_bytes(&path, 1001).unwrap().len(), 1001);
+    }
+
+    #[test]
+    fn permissions_are_kept_and_a_part_of_another_is_not_touched() {
+        use std::os::unix::fs::PermissionsExt;
+        let folder = tempfile::tempdir().unwrap();
+        let path = folder.path().join("a.obj");
+        fs::write(&path, "one").unwrap();
+        fs::set_permissions(&path, fs::Permissions::from_mode(0o600)).unwrap();
+        write_whole(&path, b"two", true).unwrap();
+        assert_eq!(fs::metadata(&path).unwrap().permissions().mode() & 0o777, 0o600);
+        let part = folder.path().join(format!(".wegrusamt-{}.part", process::id()));
+        fs::write(&part, "another's").unwrap();
+        let told = write_whole(&path, b"three", true).unwrap_err();
+        assert!(told.starts_with(&format!("{}: ", part.display())), "{told}");
+        assert_eq!((fs::read(&part).unwrap(), fs::read(&path).unwrap()), (b"another's".to_vec(), b"two".to_vec()));
+    }
+
+    #[test]
+    fn a_pipe_in_a_folder_is_told_and_not_waited_for() {
+        let folder = tempfile::tempdir().unwrap();
+        let pipe = folder.path().join("a.obj");
+        assert!(process::Command::new("mkfifo").arg(&pipe).status().unwrap().success());
+        assert_eq!(found(&[folder.path().to_path_buf()]), [Err((pipe, "that is no plain file".to_string()))]);
     }
 }

@@ -1,6 +1,6 @@
 //! What the library answers of a cell, and which of its sides and faces are to be looked at.
 
-use std::collections::BTreeMap;
+use std::collections::{BTreeMap, BTreeSet};
 
 use wegrusamt::{Cell, CellBuf, Refusal, space};
 
@@ -22,6 +22,8 @@ pub struct Measured {
     pub unturnable: Option<Refusal>,
     /// The faces that are cut short.
     pub short: Vec<ShortFace>,
+    /// How many groups its faces form that no side joins, those under three corners not counted.
+    pub groups: usize,
     /// What the cell measures about a local origin, where a face is cut short; a refusal where the
     /// moved cell is beyond the limits.
     pub local: Option<Result<Local, Refusal>>,
@@ -65,9 +67,9 @@ pub struct Local {
 }
 
 impl Measured {
-    /// Whether the cell is closed and every face is fully cut.
+    /// Whether the cell has a surface, is closed, and every face is fully cut.
     pub fn is_sound(&self) -> bool {
-        self.closed && self.short.is_empty()
+        self.groups > 0 && self.closed && self.short.is_empty()
     }
 }
 
@@ -82,6 +84,7 @@ pub fn examine(cell: &CellBuf) -> Findings {
         torn: Vec::new(),
         unturnable: None,
         short: Vec::new(),
+        groups: surfaces(asked),
         local: None,
     };
     if !survey.closed {
@@ -140,6 +143,13 @@ pub fn against_the_others(cell: Cell<'_>) -> Result<Vec<usize>, Refusal> {
         reversed[face] == (turns <= kept)
     };
     Ok((0..reversed.len()).filter(named).collect())
+}
+
+/// How many groups have a face of three corners or more: the others have no surface.
+pub fn surfaces(cell: Cell<'_>) -> usize {
+    let group = groups(cell);
+    let with_surface = cell.faces().enumerate().filter(|(_, corners)| corners.len() > 2).map(|(face, _)| group[face]);
+    with_surface.collect::<BTreeSet<usize>>().len()
 }
 
 /// For each face the lowest face of its group, of those joined by sides.
@@ -209,6 +219,7 @@ fn axis_by_axis(points: &mut [[f64; 3]]) -> ([f64; 3], [bool; 3]) {
     for axis in 0..3 {
         let mut along: Vec<[f64; 3]> =
             points.iter().map(|point| std::array::from_fn(|k| if k == axis { point[k] } else { 0.0 })).collect();
+        // Only 15 is refused here: a list that passed 1 and 2 passes them with 0 in place of some coordinates.
         if let Ok(taken) = space::to_local(&mut along) {
             (vector[axis], exact[axis]) = (taken[axis], true);
             for (point, moved) in points.iter_mut().zip(&along) {
@@ -257,6 +268,9 @@ mod tests {
     #[test]
     fn a_group_is_known_by_its_lowest_face() {
         assert_eq!(groups(two_groups(&[]).as_cell()), [0, 0, 0, 0, 4, 4, 4, 4]);
+        assert_eq!(surfaces(two_groups(&[]).as_cell()), 2);
+        let thin = CellBuf::from_faces([[0.0; 3]; 3], [&[0, 1][..], &[], &[2]]);
+        assert_eq!(surfaces(thin.as_cell()), 0);
     }
 
     #[test]
@@ -278,6 +292,28 @@ mod tests {
             let faces: Vec<usize> = (0..8).filter(|face| backward >> face & 1 == 1).collect();
             let cell = two_groups(&faces);
             assert_eq!(torn_sides(cell.as_cell()).is_empty(), cell.as_cell().closed().unwrap(), "{faces:?}");
+        }
+    }
+
+    #[test]
+    fn the_ring_that_is_left_has_the_corners_that_no_triangle_took() {
+        let foot = [[0.0, 0.0], [0.05, 0.0], [0.05, 0.25], [0.0, 0.25]];
+        let at = |z| foot.map(|[x, y]| [8588590.0 + x, 8529546.0 + y, 2969498.0 + z]);
+        let faces = [[0, 3, 2, 1], [4, 5, 6, 7], [0, 1, 5, 4], [2, 3, 7, 6], [1, 2, 6, 5], [3, 0, 4, 7]];
+        let box_ = CellBuf::from_faces([at(0.0), at(2.0)].concat(), faces);
+        // A face that goes round twice is cut in part.
+        let star = CellBuf::from_faces(
+            [[0.0, 0.0, 0.0], [2.0, 0.0, 0.0], [1.0, 2.0, 0.0], [0.0, 1.0, 0.0], [2.0, 1.0, 0.0], [1.0, -1.0, 0.0]],
+            [[0, 2, 1, 3, 4, 5, 0, 2, 4]],
+        );
+        for cell in [box_, star] {
+            let found = examine(&cell).unwrap();
+            assert_eq!(found.short.len(), cell.as_cell().survey(&[]).unwrap().short);
+            assert!(!found.short.is_empty());
+            for short in &found.short {
+                let corners = cell.as_cell().faces().nth(short.face).unwrap().len();
+                assert_eq!(short.left.len(), corners - short.triangles);
+            }
         }
     }
 

@@ -31,6 +31,7 @@ struct MeasuredObject<'a> {
     torn: Vec<SideObject<'a>>,
     unturnable: Option<u8>,
     cut_short: Vec<ShortObject>,
+    groups: usize,
     local: Option<LocalObject>,
 }
 
@@ -93,6 +94,7 @@ fn measured<'a>(report: &Report<'a>, found: &Measured, wish: Wish) -> MeasuredOb
         torn: found.torn.iter().map(|side| side_object(report, side)).collect(),
         unturnable: found.unturnable.map(Refusal::number),
         cut_short: found.short.iter().map(|short| short_object(report, short)).collect(),
+        groups: found.groups,
         local: found.local.as_ref().map(local_object),
     }
 }

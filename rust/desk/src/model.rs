@@ -5,6 +5,8 @@ use std::fmt;
 
 use wegrusamt::CellBuf;
 
+use crate::formats::text;
+
 /// What a file holds.
 #[derive(Clone, Debug, Default, PartialEq)]
 pub struct Drawing {
@@ -79,7 +81,32 @@ pub enum At {
     Whole,
 }
 
+impl Drawing {
+    /// Adds a word for what is passed over.
+    pub fn pass_over(&mut self, what: &str) {
+        if !self.passed_over.contains(what) {
+            self.passed_over.insert(what.to_string());
+        }
+    }
+
+    /// A name that stands on a line, as it is shown. Where that is not what the file has, it is noted.
+    pub fn name(&mut self, bytes: &[u8], line: usize) -> String {
+        let name = text::name(bytes);
+        if name.as_bytes() != bytes {
+            let why = "has bytes that are no text in UTF-8, or that steer a terminal";
+            self.notes.push(format!("line {line}: the name '{name}' {why}"));
+        }
+        name
+    }
+}
+
 impl Piece {
+    /// Adds a corner to the face that is being read, and the byte at which it starts.
+    pub fn push_corner(&mut self, corner: u32, start: usize) {
+        self.cell.corners.push(corner);
+        self.corner_starts.push(start);
+    }
+
     /// Adds a face whose corners have been pushed one by one.
     pub fn end_face(&mut self, place: FacePlace) {
         self.cell.end_face();

@@ -22,7 +22,7 @@ pub struct Report<'a> {
 pub struct Wish {
     /// The volume's bits, too.
     pub bits: bool,
-    /// Every torn side, not only the first ten.
+    /// Every torn side and every face that is wrong, not only the first ten of a kind.
     pub all: bool,
 }
 
@@ -30,7 +30,7 @@ pub struct Wish {
 const MOST_LISTED: usize = 10;
 
 /// The headings of a line of `--csv`.
-pub const CSV_HEADINGS: [&str; 15] = [
+pub const CSV_HEADINGS: [&str; 16] = [
     "file",
     "cell",
     "vertices",
@@ -43,6 +43,7 @@ pub const CSV_HEADINGS: [&str; 15] = [
     "torn",
     "unturnable",
     "cut_short",
+    "groups",
     "local",
     "refused",
     "why",
@@ -102,7 +103,8 @@ impl Report<'_> {
                 faults.extend(self.torn(found, wish));
                 faults.extend(found.unturnable.map(unturnable));
                 faults.extend(self.short(found, wish));
-                faults.extend(found.local.as_ref().map(about_local));
+                faults.extend(found.local.as_ref().and_then(|local| about_local(local, found)));
+                faults.extend(about_groups(found.groups));
                 faults
             }
         }
@@ -141,7 +143,11 @@ impl Report<'_> {
     fn short(&self, found: &Measured, wish: Wish) -> Option<String> {
         let faces = found.short.iter().map(|short| {
             let wanted = self.piece.corners_of(short.face).len() - 2;
-            format!("{} ({} of {wanted} triangles)", face_words(&self.piece.faces[short.face]), short.triangles)
+            let gave = format!("{} of {wanted} triangles", short.triangles);
+            let place = &self.piece.faces[short.face];
+            place
+                .line
+                .map_or(format!("{} ({gave})", place.number), |line| format!("{} (line {line}; {gave})", place.number))
         });
         let list = listed(faces.collect(), wish);
         let is = if found.short.len() == 1 { "is" } else { "are" };
@@ -195,7 +201,7 @@ impl Report<'_> {
         columns
     }
 
-    fn csv_measures(&self, found: &Measured, wish: Wish) -> [String; 9] {
+    fn csv_measures(&self, found: &Measured, wish: Wish) -> [String; 10] {
         let number = |face: usize| self.piece.faces[face].number.to_string();
         let faces = |faces: Vec<usize>| faces.into_iter().map(number).collect::<Vec<_>>().join(" ");
         [
@@ -207,7 +213,8 @@ impl Report<'_> {
             found.torn.iter().map(|side| self.side(side)).collect::<Vec<_>>().join("; "),
             found.unturnable.map_or(String::new(), |refusal| refusal.number().to_string()),
             faces(found.short.iter().map(|short| short.face).collect()),
-            found.local.as_ref().map_or(String::new(), about_local),
+            found.groups.to_string(),
+            found.local.as_ref().and_then(|local| about_local(local, found)).unwrap_or_default(),
         ]
     }
 }
@@ -234,13 +241,12 @@ fn unturnable(refusal: Refusal) -> String {
     format!("turning faces cannot close it: {why} ({})", refusal.number())
 }
 
-/// What the cell measures about a local origin, and why that is another number.
-fn about_local(local: &Result<Local, Refusal>) -> String {
+/// What the cell measures about a local origin, and why that is another number; nothing where it is there already.
+fn about_local(local: &Result<Local, Refusal>, found: &Measured) -> Option<String> {
     let local = match local {
+        Ok(local) if local.vector == [0.0; 3] => return None,
         Ok(local) => local,
-        Err(refusal) => {
-            return format!("moved to a local origin the cell is beyond the limits: {refusal}");
-        }
+        Err(refusal) => return Some(format!("moved to a local origin the cell is beyond the limits: {refusal}")),
     };
     let left: Vec<&str> =
         ["x", "y", "z"].into_iter().zip(local.exact).filter(|(_, exact)| !exact).map(|(axis, _)| axis).collect();
@@ -250,14 +256,26 @@ fn about_local(local: &Result<Local, Refusal>) -> String {
     };
     let cut = match local.short {
         0 => "every face is fully cut".to_string(),
-        1 => "1 face is still cut short".to_string(),
-        count => format!("{count} faces are still cut short"),
+        short => format!("{} still cut short", counted(short, "face is", "faces are")),
     };
-    let volume = decimals(local.volume);
-    let vector = point_text(local.vector);
-    format!(
-        "about a local origin, with {vector} taken off every vertex, {exactly}, {cut}: volume {volume}, since less is rounded there"
-    )
+    let why = if local.short < found.short.len() {
+        ", since less is rounded there"
+    } else {
+        "; so it is not for the distance"
+    };
+    let (vector, volume) = (point_text(local.vector), decimals(local.volume));
+    Some(format!("about a local origin, with {vector} taken off every vertex, {exactly}, {cut}: volume {volume}{why}"))
+}
+
+/// What is to be known of a cell with no surface, or with several.
+pub fn about_groups(groups: usize) -> Option<String> {
+    match groups {
+        0 => Some("it has no face of three corners or more, so it has no surface".to_string()),
+        1 => None,
+        _ => Some(format!(
+            "its faces form {groups} groups that no side joins: one that runs inward is taken off the others' volume"
+        )),
+    }
 }
 
 /// A list in words; where not all are wished for, its first ten.
@@ -265,7 +283,7 @@ fn listed(mut all: Vec<String>, wish: Wish) -> Vec<String> {
     let more = all.len().saturating_sub(MOST_LISTED);
     if more > 0 && !wish.all {
         all.truncate(MOST_LISTED);
-        all.push(format!("{more} more"));
+        all.push(format!("{more} more (--all lists them)"));
     }
     all
 }
@@ -277,6 +295,11 @@ fn plural(word: &str, list: &[String]) -> String {
         [first @ .., last] => format!("{word}s {} and {last}", first.join(", ")),
         [] => format!("no {word}"),
     }
+}
+
+/// How many there are of something: `1 face`, `2 faces`.
+pub fn counted(count: usize, one: &str, more: &str) -> String {
+    format!("{count} {}", if count == 1 { one } else { more })
 }
 
 fn them(found: &Measured) -> &'static str {

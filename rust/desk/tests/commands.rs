@@ -175,7 +175,7 @@ fn where_the_move_is_not_exact_it_is_said_along_which_axis() {
 fn cells_beyond_the_limits_are_told_in_words_and_the_rest_goes_on() {
     let desk = Desk::new();
     let many: String = (0..257).map(|i| format!("v {i} 0 0\n")).collect();
-    desk.put("a.obj", format!("o many\n{many}o far\nv 0 0 1e13\no nan\nv nan 0 0\no one\nv 0 0 0\n"));
+    desk.put("a.obj", format!("o many\n{many}o far\nv 0 0 1e13\no nan\nv nan 0 0\no one\nf 260 261 262\nv 0 0 0\nv 1 0 0\nv 0 1 0\nf 262 261 260\n"));
     let out = desk.said("survey --no-heading a.obj", 1, "");
     let lines: Vec<&str> = out.lines().collect();
     assert_eq!(lines[1], "    refused 1: it has 257 vertices, and 256 are the most");
@@ -197,9 +197,11 @@ fn a_file_that_cannot_be_read_is_told_and_the_others_are_surveyed() {
     desk.put("a.txt", "");
     let out = desk.said("survey --no-heading bad.obj cube.cell none.obj a.txt", 2, &[bad, missing, kind].concat());
     assert!(out.starts_with("cube.cell "), "{out}");
-    desk.put("empty.off", "OFF\n0 0 0\n");
+    assert!(out.ends_with("\n1 cell, 0 to look at, 3 files not read\n"), "{out}");
     desk.put("empty.obj", "# nothing\n");
     desk.said("survey empty.obj", 2, "wegrusamt: empty.obj: the file holds no cell\n");
+    desk.put("empty.off", "OFF\n0 0 0\n");
+    assert!(desk.said("survey empty.off", 1, "").contains("\n    refused 1: it has no vertex\n"));
 }
 
 #[test]
@@ -275,7 +277,9 @@ fn what_a_format_cannot_hold_is_told_or_nothing_is_written() {
 fn a_keyword_that_is_not_read_is_told() {
     let desk = Desk::new();
     desk.put("a.obj", "v 0 0 0\ncurv 0 1 1 2\n");
-    desk.said("survey a.obj", 0, "wegrusamt: a.obj: line 2: 'curv' is not read\n");
+    desk.said("survey a.obj", 1, "wegrusamt: a.obj: line 2: 'curv' is not read\n");
+    desk.put("capital.obj", "V 0 0 0\n");
+    desk.said("survey capital.obj", 2, "wegrusamt: capital.obj: the file holds no cell; line 1: 'V' is not read\n");
 }
 
 #[test]
@@ -292,6 +296,73 @@ fn a_picture_is_drawn_of_the_cells_that_are_asked_for() {
     let full = "wegrusamt: many.obj: the file has 17 cells, and a picture holds 16: name one with --cell\n";
     desk.said("picture many.obj -o many.svg", 2, full);
     desk.said("picture many.obj -o many.svg --cell a3", 0, "");
+}
+
+#[test]
+fn a_cell_without_a_surface_is_to_be_looked_at() {
+    let desk = Desk::new();
+    desk.put("points.obj", "v 0 0 0\nv 1 0 0\nl 1 2\nf 1 2\n");
+    let out = desk.said("survey --no-heading points.obj", 1, "");
+    assert_eq!(out.lines().nth(1), Some("    it has no face of three corners or more, so it has no surface"));
+}
+
+#[test]
+fn several_groups_are_told_by_survey_and_turn() {
+    let desk = Desk::new();
+    // Two tetrahedra; of the second three faces are backward, so the fourth is turned, and it runs inward.
+    let far = "v 5 0 0\nv 6 0 0\nv 5 1 0\nv 5 0 1\nf 5 7 6\nf 8 6 5\nf 8 7 6\nf 8 5 7\n";
+    desk.put("a.obj", format!("{TURNED}{far}"));
+    let out = desk.said("turn a.obj -o b.obj", 0, "");
+    let groups = "its faces form 2 groups that no side joins: one that runs inward is taken off the others' volume";
+    assert_eq!(out, format!("a.obj: face 5 (line 18) turned\na.obj: {groups}\n1 face turned: b.obj is written\n"));
+    let out = desk.said("survey --no-heading b.obj", 0, "");
+    assert!(out.contains(" 0     yes      0\n") && out.ends_with(&format!("    {groups}\n")), "{out}");
+    assert!(desk.call("survey --json b.obj").1.contains("\"groups\":2"));
+}
+
+#[test]
+fn a_face_that_crosses_itself_is_not_short_for_the_distance() {
+    let desk = Desk::new();
+    // A face whose corners go round twice.
+    desk.put("a.obj", "v 2 2 0\nv 4 2 0\nv 3 4 0\nv 2 3 0\nv 4 3 0\nf 1 3 2 4 5\n");
+    let (status, out, _) = desk.call("survey a.obj");
+    assert_eq!(status, 1);
+    assert!(!out.contains("since less is rounded"), "{out}");
+}
+
+#[test]
+fn carriage_returns_end_lines() {
+    let desk = Desk::new();
+    desk.put("a.obj", TURNED.replace("\r\n", "\n").replace('\n', "\r"));
+    desk.said("survey a.obj", 0, "");
+}
+
+#[test]
+fn a_name_steers_no_terminal() {
+    let desk = Desk::new();
+    desk.put("a\u{1b}[2J.obj", "v 0 0\n");
+    let (status, out, err) = desk.call("survey --no-heading .");
+    assert_eq!((status, &out[..]), (2, "0 cells, 0 to look at, 1 file not read\n"));
+    assert_eq!(err, "wegrusamt: ./a\u{fffd}[2J.obj: line 1: a point needs three numbers\n");
+}
+
+#[test]
+fn a_picture_holds_no_more_cells_of_one_name() {
+    let desk = Desk::new();
+    desk.put("many.stl", "solid a\nendsolid\n".repeat(17) + "solid\nendsolid\n");
+    let full = "wegrusamt: many.stl: 17 cells have the name 'a', and a picture holds 16\n";
+    desk.said("picture many.stl -o a.svg --cell a", 2, full);
+    let (status, out, _) = desk.call("survey --csv --no-heading many.stl");
+    assert_eq!((status, out.lines().last().unwrap()), (1, "many.stl,solid 18,0,0,,,,,,,,,,,1,it has no vertex"));
+}
+
+#[test]
+fn a_standard_error_that_cannot_be_written_changes_no_status() {
+    let desk = Desk::new();
+    let full = fs::OpenOptions::new().write(true).open("/dev/full").unwrap();
+    let mut plain = std::process::Command::new(assert_cmd::cargo::cargo_bin("wegrusamt"));
+    let done = plain.current_dir(desk.0.path()).args(["survey", "none.obj"]).stderr(full).output().unwrap();
+    assert_eq!(done.status.code(), Some(2));
 }
 
 #[test]

@@ -6,24 +6,25 @@ mod survey;
 mod turn;
 
 use std::fmt;
+use std::io::{self, Write};
 use std::path::{Path, PathBuf};
 use std::process::ExitCode;
 
 use clap::{Args, Parser, Subcommand};
 
 use crate::files::{Loaded, load};
-use crate::formats::Encoding;
+use crate::formats::{Encoding, text};
 
-/// Cells with flat faces, read from real files: measured, shown, turned.
+/// The command line.
 #[derive(Debug, Parser)]
-#[command(name = "wegrusamt", version, about, after_help = AFTER_HELP)]
+#[command(name = "wegrusamt", version, about, long_about = None, after_help = AFTER_HELP)]
 pub struct Arguments {
     #[command(subcommand)]
     command: Command,
 }
 
 const AFTER_HELP: &str = "Files end in .obj, .off, .ply, .stl or .cell. docs/DESK.md says how they are read.
-Status 0: nothing to look at. 1: something to look at. 2: a file could not be read or written.";
+Status 2: a file could not be read or written. 1, of survey and turn: something is to be looked at. Else 0.";
 
 #[derive(Debug, Subcommand)]
 enum Command {
@@ -83,7 +84,7 @@ struct ConvertWish {
     /// The file that is written; its ending says in which format
     #[arg(value_name = "OUT")]
     out: PathBuf,
-    /// How numbers are written in a PLY or STL file
+    /// How numbers are written in a PLY file, or in an STL file, which is text or little
     #[arg(long, value_enum, default_value_t)]
     encoding: Encoding,
     /// Replace OUT where it is there already
@@ -141,12 +142,18 @@ pub fn run(arguments: &Arguments) -> Status {
 
 /// Says on standard error what went wrong, or what is lost.
 fn complain(what: impl fmt::Display) {
-    eprintln!("wegrusamt: {what}");
+    // Where nothing can be said on standard error, there is no other place to say so; the status stays.
+    let _ = writeln!(io::stderr(), "wegrusamt: {what}");
+}
+
+/// A file's name as it is shown: it steers no terminal, and breaks no row.
+fn shown(path: &Path) -> String {
+    text::name(path.as_os_str().as_encoded_bytes())
 }
 
 /// What went wrong with a file.
 fn about(path: &Path, what: impl fmt::Display) -> String {
-    format!("{}: {what}", path.display())
+    format!("{}: {what}", shown(path))
 }
 
 /// Reads a file, and tells of what it holds that is not read.

@@ -11,6 +11,7 @@ use crate::words::{Report, Wish, headings, title};
 
 /// The most cells that one picture holds.
 const MOST_CELLS: usize = 16;
+const MANY: usize = MOST_CELLS + 1;
 
 pub(super) fn run(wish: &PictureWish) -> Result<Status, String> {
     let kind = wish.out.extension().and_then(|ending| ending.to_str()).map(str::to_ascii_lowercase);
@@ -43,17 +44,18 @@ fn file_name(path: &Path) -> String {
 
 /// The cells that are drawn: the one that is named, or all.
 fn chosen<'a>(pieces: &'a [Piece], wish: &PictureWish) -> Result<Vec<&'a Piece>, String> {
-    let Some(name) = &wish.cell else {
-        if pieces.len() > MOST_CELLS {
-            return Err(format!(
-                "the file has {} cells, and a picture holds {MOST_CELLS}: name one with --cell",
-                pieces.len()
-            ));
+    let named = pieces.iter().filter(|piece| wish.cell.is_none() || piece.name == wish.cell);
+    let named: Vec<&Piece> = named.collect();
+    match (&wish.cell, named.len()) {
+        (Some(name), 0) => Err(format!("no cell has the name '{name}'")),
+        (Some(name), MANY..) => {
+            Err(format!("{} cells have the name '{name}', and a picture holds {MOST_CELLS}", named.len()))
         }
-        return Ok(pieces.iter().collect());
-    };
-    let named: Vec<&Piece> = pieces.iter().filter(|piece| piece.name.as_ref() == Some(name)).collect();
-    if named.is_empty() { Err(format!("no cell has the name '{name}'")) } else { Ok(named) }
+        (None, MANY..) => {
+            Err(format!("the file has {} cells, and a picture holds {MOST_CELLS}: name one with --cell", named.len()))
+        }
+        _ => Ok(named),
+    }
 }
 
 /// The survey's table for the page.

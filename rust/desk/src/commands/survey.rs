@@ -1,14 +1,12 @@
 //! `survey`: a row for each cell.
 
-use std::fs;
 use std::io::{self, BufWriter, Write};
-use std::path::Path;
 
 use indicatif::{ProgressBar, ProgressDrawTarget, ProgressStyle};
 use rayon::prelude::*;
 
-use super::{Status, SurveyWish, about, complain};
-use crate::files::{Found, found, load};
+use super::{Status, SurveyWish, about, complain, shown};
+use crate::files::{Found, found, load, size};
 use crate::findings::examine;
 use crate::json;
 use crate::model::Piece;
@@ -29,8 +27,8 @@ enum Row {
     Columns(Vec<String>, Vec<String>),
 }
 
-/// What there is to tell of a file: a row for each cell and whether it is to be looked at, or why the file could
-/// not be read.
+/// What there is to tell of a file: a row for each cell and whether the cell is sound, or why the file could not be
+/// read.
 struct Told {
     rows: Vec<(Row, bool)>,
     complaints: Vec<String>,
@@ -44,13 +42,13 @@ struct Output<'a, W: Write> {
     name_width: Option<usize>,
     cells: usize,
     to_look_at: usize,
-    unread: bool,
+    unread: usize,
 }
 
 pub(super) fn run(wish: &SurveyWish) -> Result<Status, String> {
     let files = found(&wish.files);
     let out = BufWriter::new(io::stdout().lock());
-    let mut output = Output { wish, out, name_width: None, cells: 0, to_look_at: 0, unread: false };
+    let mut output = Output { wish, out, name_width: None, cells: 0, to_look_at: 0, unread: 0 };
     let bar = progress(files.len());
     let outcome = survey_all(&files, &bar, &mut output);
     bar.finish_and_clear();
@@ -69,10 +67,10 @@ fn survey_all(files: &[Found], bar: &ProgressBar, output: &mut Output<'_, impl W
     let mut rest = files;
     while !rest.is_empty() {
         let (now, later) = rest.split_at(at_once(rest));
-        let told: Vec<Told> = now.par_iter().map(|file| tell(output.wish, file)).collect();
+        let (wish, count) = (output.wish, |_: &Told| bar.inc(1));
+        let told: Vec<Told> = now.par_iter().map(|file| tell(wish, file)).inspect(count).collect();
         // The bar steps aside while rows are written, since both may go to one terminal.
         bar.suspend(|| output.take(told))?;
-        bar.inc(now.len() as u64);
         rest = later;
     }
     Ok(())
@@ -89,11 +87,6 @@ fn at_once(files: &[Found]) -> usize {
     fit.count().max(1)
 }
 
-/// The size of a file; 0 where it cannot be told, which reading will say.
-fn size(path: &Path) -> u64 {
-    fs::metadata(path).map_or(0, |known| known.len())
-}
-
 impl<W: Write> Output<'_, W> {
     /// Writes what there is to tell of some files, and adds it up.
     fn take(&mut self, told: Vec<Told>) -> io::Result<()> {
@@ -102,7 +95,7 @@ impl<W: Write> Output<'_, W> {
             self.write_heading()?;
         }
         for file in told {
-            self.unread |= file.unread;
+            self.unread += usize::from(file.unread);
             for (row, sound) in file.rows {
                 self.cells += 1;
                 self.to_look_at += usize::from(!sound);
@@ -139,12 +132,17 @@ impl<W: Write> Output<'_, W> {
 
     /// The last line, and the status.
     fn finish(mut self) -> io::Result<Status> {
-        if !self.wish.csv && !self.wish.json && self.cells > 1 {
-            writeln!(self.out, "{} cells, {} to look at", self.cells, self.to_look_at)?;
+        if !self.wish.csv && !self.wish.json && (self.cells > 1 || self.unread > 0) {
+            let unread = match self.unread {
+                0 => String::new(),
+                count => format!(", {} not read", words::counted(count, "file", "files")),
+            };
+            let cells = words::counted(self.cells, "cell", "cells");
+            writeln!(self.out, "{cells}, {} to look at{unread}", self.to_look_at)?;
         }
         self.out.flush()?;
         Ok(match self {
-            Output { unread: true, .. } => Status::Failed,
+            Output { unread: 1.., .. } => Status::Failed,
             Output { to_look_at: 0, .. } => Status::Well,
             _ => Status::LookAt,
         })
@@ -175,7 +173,8 @@ fn tell(wish: &SurveyWish, file: &Found) -> Told {
     match loaded {
         Err(why) => Told { rows: Vec::new(), complaints: vec![why], unread: true },
         Ok((path, drawing)) => {
-            let name = path.display().to_string();
+            // Programs get the name as it is; what people read steers no terminal.
+            let name = if wish.json || wish.csv { path.display().to_string() } else { shown(path) };
             let rows = drawing.pieces.par_iter().map(|piece| row(wish, &name, piece)).collect();
             let complaints = drawing.notes.iter().map(|note| about(path, note)).collect();
             Told { rows, complaints, unread: false }

@@ -2,11 +2,12 @@
 
 use std::io::{self, Write};
 
-use super::{Status, TurnWish, about, loaded};
+use super::{Status, TurnWish, about, loaded, shown};
 use crate::files::{Loaded, format_of, write_whole};
+use crate::findings::surfaces;
 use crate::model::Piece;
 use crate::turning::{Turning, turned_file, turning};
-use crate::words::{face_words, title};
+use crate::words::{about_groups, counted, face_words, title};
 
 pub(super) fn run(wish: &TurnWish) -> Result<Status, String> {
     let Loaded { format, bytes, drawing } = loaded(&wish.file)?;
@@ -21,12 +22,12 @@ pub(super) fn run(wish: &TurnWish) -> Result<Status, String> {
         .map_err(|bad| about(&wish.file, bad))?;
     write_whole(&wish.out, &turned, wish.force).map_err(|bad| about(&wish.out, bad))?;
 
-    let name = wish.file.display().to_string();
+    let name = shown(&wish.file);
     let told: String =
         drawing.pieces.iter().zip(&turnings).map(|(piece, turning)| told(&name, piece, turning)).collect();
     let count: usize = faces.iter().map(Vec::len).sum();
-    let faces = if count == 1 { "face" } else { "faces" };
-    let all = format!("{told}{count} {faces} turned: {} is written\n", wish.out.display());
+    let turned = counted(count, "face", "faces");
+    let all = format!("{told}{turned} turned: {} is written\n", shown(&wish.out));
     io::stdout().write_all(all.as_bytes()).map_err(|error| format!("standard output: {error}"))?;
     Ok(if kept { Status::LookAt } else { Status::Well })
 }
@@ -68,7 +69,10 @@ fn told(file: &str, piece: &Piece, turning: &Turning) -> String {
     match turning {
         Turning::Closed => String::new(),
         Turning::Turned(faces) => {
-            faces.iter().map(|&face| format!("{title}: face {} turned\n", face_words(&piece.faces[face]))).collect()
+            let turned = faces.iter().map(|&face| format!("face {} turned", face_words(&piece.faces[face])));
+            // Each group is turned by itself, so that one may run against another.
+            let groups = about_groups(surfaces(piece.cell.as_cell()));
+            turned.chain(groups).map(|what| format!("{title}: {what}\n")).collect()
         }
         Turning::Kept(refusal) => format!("{title}: kept as it was, {refusal}\n"),
     }

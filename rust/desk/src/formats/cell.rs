@@ -33,12 +33,17 @@ pub fn read(bytes: &[u8]) -> Result<Drawing, BadFile> {
     if reader != Reader::default() {
         return Err(BadFile::byte(bytes.len(), "the file ends in a cell that has no end"));
     }
+    name_several(&mut pieces);
+    Ok(Drawing { pieces, corner_width: CornerWidth::Bytes(8), ..Drawing::default() })
+}
+
+/// Gives names to the cells of a file that has several.
+fn name_several(pieces: &mut [Piece]) {
     if pieces.len() > 1 {
-        for (place, piece) in pieces.iter_mut().enumerate() {
-            piece.name = Some(format!("cell {}", place + 1));
+        for (piece, place) in pieces.iter_mut().zip(1..) {
+            piece.name = Some(format!("cell {place}"));
         }
     }
-    Ok(Drawing { pieces, corner_width: CornerWidth::Bytes(8), ..Drawing::default() })
 }
 
 /// The cell that is being read, and the byte at which its open face starts.
@@ -61,8 +66,7 @@ impl Reader {
             CORNER => {
                 let corner =
                     u32::try_from(fields[0]).map_err(|_| format!("the corner {} is over 32 bits", fields[0]))?;
-                piece.cell.corners.push(corner);
-                piece.corner_starts.push(start + 8);
+                piece.push_corner(corner, start + 8);
                 self.open.get_or_insert(start);
             }
             FACE_END => {
@@ -119,7 +123,7 @@ pub fn write(pieces: &[Piece]) -> Result<Written, String> {
 #[cfg(test)]
 mod tests {
     use super::*;
-    use crate::formats::testing::{cells, damaged, same_cells};
+    use crate::formats::testing::{cells, damaged, holds_together, same_cells};
     use proptest::prelude::*;
 
     fn record(kind: u8, fields: [u64; 3]) -> Vec<u8> {
@@ -177,7 +181,9 @@ mod tests {
 
         #[test]
         fn damage_is_no_panic(bytes in damaged(include_bytes!("../../../../examples/prism.cell"))) {
-            let _ = read(&bytes);
+            if let Ok(drawing) = read(&bytes) {
+                holds_together(&drawing, &bytes)?;
+            }
         }
     }
 }

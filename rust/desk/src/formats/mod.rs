@@ -81,7 +81,9 @@ impl Format {
             Format::Cell => cell::read(bytes),
         }?;
         if drawing.pieces.is_empty() {
-            return Err(BadFile::whole("the file holds no cell"));
+            // What is not read may be why.
+            let note = drawing.notes.first().map_or(String::new(), |note| format!("; {note}"));
+            return Err(BadFile::whole(format!("the file holds no cell{note}")));
         }
         Ok(drawing)
     }

@@ -1,44 +1,31 @@
 //! Wavefront OBJ: objects or groups of faces over one list of vertices.
 
-use std::collections::{BTreeSet, HashMap};
+use std::collections::{BTreeSet, HashMap, HashSet};
 
 use super::text::{self, Line, Word, lines};
 use super::{Written, queries_told};
-use crate::model::{BadFile, CornerWidth, Drawing, FacePlace, Piece};
+use crate::model::{BadFile, Drawing, FacePlace, Piece};
 
-/// Keywords that say nothing about points and faces.
-const PASSED_OVER: [&str; 17] = [
-    "vn",
-    "vt",
-    "l",
-    "p",
-    "s",
-    "usemtl",
-    "mtllib",
-    "mg",
-    "bevel",
-    "c_interp",
-    "d_interp",
-    "lod",
-    "usemap",
-    "maplib",
-    "shadow_obj",
-    "trace_obj",
-    "call",
-];
+/// Keywords that say nothing about points and faces, but how they look.
+const LOOKS: &str = "vn vt l p s usemtl mtllib mg bevel c_interp d_interp lod usemap maplib shadow_obj trace_obj";
 
 /// The name of an object or group that is given none.
 const NO_NAME: &[u8] = b"default";
+
+/// The most numbers of a vertex: its place, a weight, and three of a colour.
+const MOST_NUMBERS: usize = 7;
+
+/// The most keywords that are told of.
+const MOST_TOLD: usize = 10;
 
 /// What an OBJ file holds.
 pub fn read(bytes: &[u8]) -> Result<Drawing, BadFile> {
     let mut reader = Reader::default();
     let mut lines = lines(bytes);
     while let Some(line) = lines.next() {
-        let keyword = line.words().next();
-        match keyword.map(|word| word.bytes) {
-            Some(b"o") => reader.begin(Parts::Objects, line),
-            Some(b"g") => reader.begin(Parts::Groups, line),
+        match line.words().next().map(|word| word.bytes) {
+            Some(b"o") => reader.begin(Parts::Objects, line)?,
+            Some(b"g") => reader.begin(Parts::Groups, line)?,
             _ => reader.take(line, &mut lines)?,
         }
     }
@@ -52,57 +39,67 @@ enum Parts {
     Groups,
 }
 
-/// The names of the parts of one kind. A part has the place of its name, plus 1; 0 is what stands
-/// before the first.
+/// The names of the parts of one kind. A part has the place of its name, plus 1; 0 is what stands before the first.
 #[derive(Default)]
 struct Names {
     all: Vec<String>,
-    places: HashMap<Vec<u8>, usize>,
+    places: HashMap<Vec<u8>, u32>,
 }
 
-/// What has been read so far. Which kind of parts are cells is known only at the end, so each vertex
-/// and each face keeps the part of both kinds in which it stands.
+/// What has been read so far. Which kind of parts are cells is known only at the end, so each vertex and each face
+/// keeps the part of both kinds in which it stands.
 #[derive(Default)]
 struct Reader {
+    drawing: Drawing,
     names: [Names; 2],
-    current: [usize; 2],
+    current: [u32; 2],
     vertices: Vec<[f64; 3]>,
-    vertex_parts: Vec<[usize; 2]>,
+    vertex_parts: Vec<[u32; 2]>,
     corners: Vec<u32>,
     corner_starts: Vec<usize>,
     ends: Vec<usize>,
     face_places: Vec<FacePlace>,
-    face_parts: Vec<[usize; 2]>,
-    passed_over: BTreeSet<String>,
+    face_parts: Vec<[u32; 2]>,
     not_read: BTreeSet<Vec<u8>>,
-    notes: Vec<String>,
 }
 
 impl Reader {
     /// Goes on with the part that the line names.
-    fn begin(&mut self, kind: Parts, line: Line<'_>) {
+    fn begin(&mut self, kind: Parts, line: Line<'_>) -> Result<(), BadFile> {
         let name = line.bytes.trim_ascii_start()[1..].trim_ascii();
         let name = if name.is_empty() { NO_NAME } else { name };
         let Names { all, places } = &mut self.names[kind as usize];
-        let place = *places.entry(name.to_vec()).or_insert_with(|| {
-            all.push(text::name(name));
-            all.len()
-        });
+        if let Some(&place) = places.get(name) {
+            self.current[kind as usize] = place;
+            return Ok(());
+        }
+        text::within(all.len(), "objects or groups", line.number)?;
+        all.push(self.drawing.name(name, line.number));
+        let place = text::numbered(all.len(), 0);
+        places.insert(name.to_vec(), place);
         self.current[kind as usize] = place;
+        Ok(())
     }
 
     /// Takes a line, and those that continue it.
     fn take<'a>(&mut self, line: Line<'a>, rest: &mut impl Iterator<Item = Line<'a>>) -> Result<(), BadFile> {
+        // Of what is not read only the keyword is looked at, so a long line of it takes no room.
+        let unread = line.words().next().is_some_and(|word| !matches!(word.bytes, b"v" | b"f" | b"\\"));
+        let most = if unread { 1 } else { text::MOST + 2 };
         let mut words = Vec::new();
-        let mut next = Some(line);
-        while let Some(part) = next {
+        let mut part = line;
+        loop {
             let said = part.before(b'#');
-            if said.bytes.len() < part.bytes.len() {
-                self.pass_over("comments");
+            let commented = said.bytes.len() < part.bytes.len();
+            if commented {
+                self.drawing.pass_over("comments");
             }
-            let continued = said.bytes.strip_suffix(b"\\");
-            words.extend(Line { bytes: continued.unwrap_or(said.bytes), ..said }.words());
-            next = if continued.is_some() { rest.next() } else { None };
+            let goes_on = if commented { None } else { said.bytes.strip_suffix(b"\\") };
+            words.extend(Line { bytes: goes_on.unwrap_or(said.bytes), ..said }.words().take(most));
+            if goes_on.is_none() {
+                break;
+            }
+            part = rest.next().ok_or_else(|| BadFile::line(part.number, "the file ends in a line that goes on"))?;
         }
         match words.split_first() {
             Some((keyword, words)) => self.take_words(line, *keyword, words),
@@ -112,28 +109,33 @@ impl Reader {
 
     fn take_words(&mut self, line: Line<'_>, keyword: Word<'_>, words: &[Word<'_>]) -> Result<(), BadFile> {
         match keyword.bytes {
-            b"v" => self.take_vertex(line, words),
-            b"f" => self.take_face(line, words),
-            other => {
-                match PASSED_OVER.iter().find(|known| known.as_bytes() == other) {
-                    Some(known) => self.pass_over(known),
-                    None => self.tell_of(keyword),
-                }
-                Ok(())
-            }
+            b"v" => self.take_vertex(line, words)?,
+            b"f" => self.take_face(line, words)?,
+            other => match LOOKS.split(' ').find(|known| known.as_bytes() == other) {
+                Some(known) => self.drawing.pass_over(known),
+                None => self.tell_of(keyword),
+            },
         }
+        Ok(())
     }
 
     fn take_vertex(&mut self, line: Line<'_>, words: &[Word<'_>]) -> Result<(), BadFile> {
+        text::within(self.vertices.len(), "vertices", line.number)?;
         self.vertices.push(text::point(line, &mut words.iter().copied())?);
         self.vertex_parts.push(self.current);
+        if let Some(word) = words.get(MOST_NUMBERS) {
+            return Err(word.bad(format!("is one too many: a vertex has at most {MOST_NUMBERS} numbers")));
+        }
         if words.len() > 3 {
-            self.pass_over("weights or colours of vertices");
+            text::only_numbers(words[3..].iter().copied())?;
+            self.drawing.pass_over("weights or colours of vertices");
         }
         Ok(())
     }
 
     fn take_face(&mut self, line: Line<'_>, words: &[Word<'_>]) -> Result<(), BadFile> {
+        text::within(self.ends.len(), "faces", line.number)?;
+        text::within(self.corners.len() + words.len(), "corners", line.number)?;
         for &word in words {
             self.corners.push(corner(word, self.vertices.len())?);
             self.corner_starts.push(word.start);
@@ -144,17 +146,14 @@ impl Reader {
         Ok(())
     }
 
-    fn pass_over(&mut self, what: &str) {
-        if !self.passed_over.contains(what) {
-            self.passed_over.insert(what.to_string());
-        }
-    }
-
-    /// Notes a keyword that is not read, once.
+    /// Notes a keyword that is not read, once; of many the first ten.
     fn tell_of(&mut self, keyword: Word<'_>) {
-        if self.not_read.insert(keyword.bytes.to_vec()) {
-            self.notes.push(format!("line {}: {} is not read", keyword.line, keyword.shown()));
+        let told = self.not_read.len();
+        if told > MOST_TOLD || !self.not_read.insert(keyword.bytes.to_vec()) {
+            return;
         }
+        let what = if told < MOST_TOLD { keyword.shown() } else { "a further keyword".to_string() };
+        self.drawing.notes.push(format!("line {}: {what} is not read", keyword.line));
     }
 
     /// Which kind of parts are the cells: objects where there are any, else groups.
@@ -166,25 +165,24 @@ impl Reader {
         self.judge_corners()?;
         let kind = self.kind();
         if kind == Parts::Objects as usize && !self.names[Parts::Groups as usize].all.is_empty() {
-            self.pass_over("groups");
+            self.drawing.pass_over("groups");
         }
         let mut pieces = self.pieces_with_vertices(kind);
         let mut start = 0;
         for (face, &end) in self.ends.iter().enumerate() {
-            let piece = &mut pieces[self.face_parts[face][kind]];
+            let piece = &mut pieces[self.face_parts[face][kind] as usize];
             for place in start..end {
                 // The vertices of a piece stand in the order of the file, and hold every corner.
                 let number = self.corners[place] + 1;
                 let corner = piece.vertex_numbers.partition_point(|&other| other < number);
-                piece.cell.corners.push(text::numbered(corner, 0));
-                piece.corner_starts.push(self.corner_starts[place]);
+                piece.push_corner(text::numbered(corner, 0), self.corner_starts[place]);
             }
             piece.end_face(self.face_places[face]);
             start = end;
         }
         pieces.retain(|piece| !piece.faces.is_empty() || !piece.cell.points.is_empty());
-        let (passed_over, notes) = (self.passed_over, self.notes);
-        Ok(Drawing { pieces, passed_over, notes, corner_width: CornerWidth::Word })
+        self.drawing.pieces = pieces;
+        Ok(self.drawing)
     }
 
     /// Makes sure that every corner names a vertex of the file: it may come after the face.
@@ -199,33 +197,40 @@ impl Reader {
         Err(BadFile::line(line as usize, format!("the face names vertex {number}, and the file has {count}")))
     }
 
-    /// The pieces without their faces: each has the vertices that its faces name, and those that
-    /// stand in it and that no face names.
+    /// The pieces without their faces.
     fn pieces_with_vertices(&self, kind: usize) -> Vec<Piece> {
         let names = self.names[kind].all.iter().cloned().map(Some);
-        let names = std::iter::once(None).chain(names);
-        let mut pieces: Vec<Piece> = names.map(|name| Piece { name, ..Piece::default() }).collect();
+        let pieces = std::iter::once(None).chain(names).zip(self.vertex_numbers(kind));
+        let filled = pieces.map(|(name, mut numbers)| {
+            numbers.sort_unstable();
+            numbers.dedup();
+            let mut piece = Piece { name, vertex_numbers: numbers, ..Piece::default() };
+            let points = piece.vertex_numbers.iter().map(|&number| self.vertices[number as usize - 1]);
+            piece.cell.points = points.collect();
+            piece
+        });
+        filled.collect()
+    }
+
+    /// The numbers of the vertices of each part: those that its faces name, once for each corner, and those that
+    /// stand in it and that no face names.
+    fn vertex_numbers(&self, kind: usize) -> Vec<Vec<u32>> {
+        let mut numbers = vec![Vec::new(); self.names[kind].all.len() + 1];
         let mut named = vec![false; self.vertices.len()];
         let mut start = 0;
         for (parts, &end) in self.face_parts.iter().zip(&self.ends) {
             for &corner in &self.corners[start..end] {
                 named[corner as usize] = true;
-                pieces[parts[kind]].vertex_numbers.push(corner + 1);
+                numbers[parts[kind] as usize].push(corner + 1);
             }
             start = end;
         }
         for (vertex, parts) in self.vertex_parts.iter().enumerate() {
             if !named[vertex] {
-                pieces[parts[kind]].vertex_numbers.push(text::numbered(vertex, 1));
+                numbers[parts[kind] as usize].push(text::numbered(vertex, 1));
             }
         }
-        for piece in &mut pieces {
-            piece.vertex_numbers.sort_unstable();
-            piece.vertex_numbers.dedup();
-            let points = piece.vertex_numbers.iter().map(|&number| self.vertices[number as usize - 1]);
-            piece.cell.points = points.collect();
-        }
-        pieces
+        numbers
     }
 }
 
@@ -256,39 +261,47 @@ pub fn write(pieces: &[Piece]) -> Result<Written, String> {
     let mut out = String::new();
     let mut before = 1;
     for (piece, name) in pieces.iter().zip(object_names(pieces, &mut told)) {
-        if let Some(name) = name {
-            out += &format!("o {name}\n");
-        }
-        for &point in &piece.cell.points {
-            out += &format!("v {}\n", text::point_text(point));
-        }
-        for face in piece.cell.as_cell().faces() {
-            out.push('f');
-            for &corner in face {
-                out += &format!(" {}", before + corner as usize);
-            }
-            out.push('\n');
-        }
+        out += &object_text(piece, name, before);
         before += piece.cell.points.len();
     }
     Ok(Written { bytes: out.into_bytes(), told })
 }
 
-/// A name for each object. Several objects need one each, and of their own: faces of two objects
-/// with one name would be read back as one cell.
+/// An object. Its first vertex has this number in the file.
+fn object_text(piece: &Piece, name: Option<String>, first: usize) -> String {
+    let mut out = name.map_or(String::new(), |name| format!("o {name}\n"));
+    for &point in &piece.cell.points {
+        out += &format!("v {}\n", text::point_text(point));
+    }
+    for face in piece.cell.as_cell().faces() {
+        let corners: String = face.iter().map(|&corner| format!(" {}", first + corner as usize)).collect();
+        out += &format!("f{corners}\n");
+    }
+    out
+}
+
+/// A name for each object. Several objects need one each, and of their own: faces of two objects with one name would
+/// be read back as one cell.
 fn object_names(pieces: &[Piece], told: &mut Vec<String>) -> Vec<Option<String>> {
     if let [piece] = pieces {
         return vec![piece.name.clone()];
     }
-    let mut used = BTreeSet::new();
+    let mut used = HashSet::new();
+    // How often each name was wished for, so that the search for a free one goes on where it ended.
+    let mut wished: HashMap<String, usize> = HashMap::new();
     let named = pieces.iter().zip(1..).map(|(piece, place)| {
-        let wanted = piece.name.clone().unwrap_or_else(|| format!("cell {place}"));
-        let others = (2..).map(|count| format!("{wanted} ({count})"));
-        let name = std::iter::once(wanted.clone()).chain(others).find(|name| !used.contains(name))?;
+        let wish = piece.name.clone().unwrap_or_else(|| format!("cell {place}"));
+        let count = wished.entry(wish.clone()).or_default();
+        let name = loop {
+            *count += 1;
+            let name = if *count == 1 { wish.clone() } else { format!("{wish} ({count})") };
+            if used.insert(name.clone()) {
+                break name;
+            }
+        };
         if piece.name.as_ref() != Some(&name) {
             told.push(format!("cell {place} of the file is written as '{name}'"));
         }
-        used.insert(name.clone());
         Some(name)
     });
     named.collect()
@@ -297,7 +310,7 @@ fn object_names(pieces: &[Piece], told: &mut Vec<String>) -> Vec<Option<String>>
 #[cfg(test)]
 mod tests {
     use super::*;
-    use crate::formats::testing::{Shape, cells, damaged, same_cells};
+    use crate::formats::testing::{Shape, cells, damaged, holds, same_cells};
     use proptest::prelude::*;
 
     fn shapes(text: &str) -> Vec<Shape> {
@@ -375,6 +388,42 @@ mod tests {
     }
 
     #[test]
+    fn a_vertex_has_no_more_than_numbers() {
+        assert_eq!(shapes("v 0 0 0 1 0.5 0.5 0.5\n")[0].vertex_numbers, [1]);
+        let eight = "line 1: '8' is one too many: a vertex has at most 7 numbers";
+        assert_eq!(refusal("v 1 2 3 4 5 6 7 8\n"), eight);
+        assert_eq!(refusal("v 0 0 0 rock\n"), "line 1: 'rock' is no number");
+    }
+
+    #[test]
+    fn a_line_goes_on_only_before_another_and_not_in_a_comment() {
+        let text = "v 0 0 0\nv 1 0 0\nv 0 1 0 \\# seam \\\nf 1 2 3\n";
+        assert_eq!(refusal(text), "line 3: '\\\\' is no number");
+        assert_eq!(shapes("v 0 0 0\nv 1 0 0\nv 0 1 0 # seam \\\nf 1 2 3\n")[0].faces, [[0, 1, 2]]);
+        assert_eq!(refusal("v 0 0 0\nf 1 \\\n"), "line 2: the file ends in a line that goes on");
+        let names: Vec<_> = shapes("v 0 0 0\ng wall \\\nf 1\n").into_iter().map(|shape| shape.name).collect();
+        assert_eq!(names, [Some("wall \\".into())]);
+    }
+
+    #[test]
+    fn a_name_that_cannot_be_shown_is_told() {
+        let drawing = read(b"o S\xfcd\nv 0 0 0\no S\xf6d\nv 1 0 0\n").unwrap();
+        let names: Vec<_> = drawing.pieces.iter().map(|piece| piece.name.as_deref()).collect();
+        assert_eq!(names, [Some("S\u{fffd}d"); 2]);
+        let told = "line 1: the name 'S\u{fffd}d' has bytes that are no text in UTF-8, or that steer a terminal";
+        assert_eq!(drawing.notes[0], told);
+        assert_eq!(drawing.notes.len(), 2);
+    }
+
+    #[test]
+    fn many_keywords_are_told_of_in_part() {
+        let text: String = (0..30).map(|k| format!("x{k} 1\n")).collect();
+        let drawing = read(format!("{text}v 0 0 0\ncall other.obj\n").as_bytes()).unwrap();
+        assert_eq!(drawing.notes.len(), 11);
+        assert_eq!(drawing.notes[10], "line 11: a further keyword is not read");
+    }
+
+    #[test]
     fn a_keyword_that_is_not_read_is_told_once() {
         let drawing = read(b"curv 1 2\ncurv 3 4\nvn 0 0 1\nv 0 0 0\n").unwrap();
         assert_eq!(drawing.notes, ["line 1: 'curv' is not read"]);
@@ -399,7 +448,9 @@ mod tests {
 
         #[test]
         fn damage_is_no_panic(bytes in damaged(b"o a\nv 0 0 0\nv 1 0 0\nv 0 1 0\n#x\nf 1/1 2//2 \\\n -1\n")) {
-            let _ = read(&bytes);
+            if let Ok(drawing) = read(&bytes) {
+                holds(&drawing, &bytes)?;
+            }
         }
     }
 }

@@ -2,35 +2,27 @@
 
 use super::text::{self, Line, Word, lines};
 use super::{Format, Written, name_told, only_piece, queries_told};
-use crate::model::{BadFile, CornerWidth, Drawing, Piece};
+use crate::model::{BadFile, Drawing, Piece};
 
 /// The words with which a file may begin.
 const HEADS: [&[u8]; 4] = [b"OFF", b"COFF", b"NOFF", b"CNOFF"];
 
 /// What an OFF file holds.
 pub fn read(bytes: &[u8]) -> Result<Drawing, BadFile> {
-    let mut drawing = Drawing { corner_width: CornerWidth::Word, ..Drawing::default() };
+    let mut drawing = Drawing::default();
     if bytes.contains(&b'#') {
-        drawing.passed_over.insert("comments".to_string());
+        drawing.pass_over("comments");
     }
     let mut rest = Rest { lines: lines(bytes), last: 0 };
     let [vertices, faces] = counts(&mut rest)?;
     let mut piece = Piece::default();
     for vertex in 0..vertices {
         let line = rest.line(|| format!("the file ends after {vertex} of {vertices} vertices"))?;
-        let mut words = line.words();
-        piece.cell.points.push(text::point(line, &mut words)?);
-        piece.vertex_numbers.push(text::numbered(vertex, 0));
-        if words.next().is_some() {
-            drawing.passed_over.insert("colours or normals of vertices".to_string());
-        }
+        take_vertex(&mut drawing, &mut piece, line)?;
     }
     for face in 0..faces {
         let line = rest.line(|| format!("the file ends after {face} of {faces} faces"))?;
-        if take_face(&mut piece, line, vertices)?.is_some() {
-            drawing.passed_over.insert("colours of faces".to_string());
-        }
-        piece.end_face(text::face_place(face, 0, line));
+        take_face(&mut drawing, &mut piece, line)?;
     }
     if let Some(line) = rest.next() {
         return Err(BadFile::line(line.number, format!("something follows the last of {faces} faces")));
@@ -71,8 +63,9 @@ fn counts<'a>(rest: &mut Rest<impl Iterator<Item = Line<'a>>>) -> Result<[usize;
         return Err(BadFile::line(line.number, "an OFF file begins with the word OFF, COFF, NOFF or CNOFF"));
     }
     let words: Vec<Word<'_>> = match words.next() {
-        Some(first) => std::iter::once(first).chain(words).collect(),
-        None => rest.line(|| "the file has no counts".to_string())?.words().collect(),
+        // A fourth word is one too many, and no more are looked at.
+        Some(first) => std::iter::once(first).chain(words).take(4).collect(),
+        None => rest.line(|| "the file has no counts".to_string())?.words().take(4).collect(),
     };
     if words.first().is_some_and(|word| word.bytes.eq_ignore_ascii_case(b"BINARY")) {
         return Err(BadFile::line(line.number, "a binary OFF file is not read"));
@@ -83,38 +76,44 @@ fn counts<'a>(rest: &mut Rest<impl Iterator<Item = Line<'a>>>) -> Result<[usize;
     }
 }
 
-/// Adds the corners of a face: their count and then their vertices. Answers the word that follows
-/// them, where there is one.
-fn take_face<'a>(piece: &mut Piece, line: Line<'a>, vertices: usize) -> Result<Option<Word<'a>>, BadFile> {
-    let mut words = line.words();
-    let Some(first) = words.next() else {
-        return Ok(None);
-    };
-    let corners = first.count()?;
-    for corner in 0..corners {
-        let word = words.next();
-        let word =
-            word.ok_or_else(|| BadFile::line(line.number, format!("a face of {corners} corners has {corner}")))?;
-        text::push_corner(piece, word, vertices)?;
+/// Adds a vertex: three numbers, and what may follow them.
+fn take_vertex(drawing: &mut Drawing, piece: &mut Piece, line: Line<'_>) -> Result<(), BadFile> {
+    let before = piece.cell.points.len();
+    text::within(before, "vertices", line.number)?;
+    let mut words = line.words().peekable();
+    piece.cell.points.push(text::point(line, &mut words)?);
+    piece.vertex_numbers.push(text::numbered(before, 0));
+    if words.peek().is_some() {
+        drawing.pass_over("colours or normals of vertices");
     }
-    Ok(words.next())
+    text::only_numbers(words)
+}
+
+/// Adds a face: the count of its corners, their vertices, and what may follow them.
+fn take_face(drawing: &mut Drawing, piece: &mut Piece, line: Line<'_>) -> Result<(), BadFile> {
+    let (before, vertices) = (piece.faces.len(), piece.cell.points.len());
+    text::within(before, "faces", line.number)?;
+    let mut words = line.words().peekable();
+    let corners = words.next().map_or(Ok(0), Word::count)?;
+    for corner in 0..corners {
+        text::within(piece.cell.corners.len(), "corners", line.number)?;
+        let word = words.next();
+        let few = || BadFile::line(line.number, format!("a face of {corners} corners has {corner}"));
+        text::push_corner(piece, word.ok_or_else(few)?, vertices)?;
+    }
+    piece.end_face(text::face_place(before, 0, line));
+    if words.peek().is_some() {
+        drawing.pass_over("colours of faces");
+    }
+    text::only_numbers(words)
 }
 
 /// The cell as an OFF file. The count of sides is 0, which readers do not look at.
 pub fn write(pieces: &[Piece]) -> Result<Written, String> {
     let piece = only_piece(pieces, Format::Off)?;
     text::no_nan(pieces)?;
-    let mut out = format!("OFF\n{} {} 0\n", piece.cell.points.len(), piece.cell.ends.len());
-    for &point in &piece.cell.points {
-        out += &format!("{}\n", text::point_text(point));
-    }
-    for face in piece.cell.as_cell().faces() {
-        out += &face.len().to_string();
-        for corner in face {
-            out += &format!(" {corner}");
-        }
-        out.push('\n');
-    }
+    let head = format!("OFF\n{} {} 0\n", piece.cell.points.len(), piece.cell.ends.len());
+    let out = head + &text::items_text(piece);
     let told = queries_told(pieces).into_iter().chain(name_told(piece)).collect();
     Ok(Written { bytes: out.into_bytes(), told })
 }
@@ -122,7 +121,7 @@ pub fn write(pieces: &[Piece]) -> Result<Written, String> {
 #[cfg(test)]
 mod tests {
     use super::*;
-    use crate::formats::testing::{cells, damaged, same_cells};
+    use crate::formats::testing::{cells, damaged, holds, same_cells};
     use crate::model::FacePlace;
     use proptest::prelude::*;
 
@@ -161,6 +160,7 @@ mod tests {
         assert_eq!(refusal("OFF\n1 1 0\n0 0 0\n"), "line 3: the file ends after 0 of 1 faces");
         assert_eq!(refusal("OFF\n1 1 0\n0 0 0\n3 0 0\n"), "line 4: a face of 3 corners has 2");
         assert_eq!(refusal("OFF\n1 1 0\n0 0 0\n1 1\n"), "line 4: '1' is no vertex: the file has 1, from 0");
+        assert_eq!(refusal("OFF\n1 1 0\n0 0 0 rock\n1 0\n"), "line 3: 'rock' is no number");
         assert_eq!(refusal("OFF\n1 1 0\n0 0 0\n1 0\n1 0\n"), "line 5: something follows the last of 1 faces");
     }
 
@@ -173,7 +173,9 @@ mod tests {
 
         #[test]
         fn damage_is_no_panic(bytes in damaged(b"OFF\n3 2 0\n0 0 0\n1 0 0\n0 1 0\n3 0 1 2 255\n3 2 1 0\n")) {
-            let _ = read(&bytes);
+            if let Ok(drawing) = read(&bytes) {
+                holds(&drawing, &bytes)?;
+            }
         }
     }
 }

@@ -140,9 +140,7 @@ impl<'a> Header<'a> {
         for line in lines {
             header.lines = line.number;
             if header.take(line)? {
-                let mut rest = bytes[line.start..].iter();
-                let end = rest.position(|&byte| byte == b'\n');
-                header.length = end.map_or(bytes.len(), |end| line.start + end + 1);
+                header.length = text::next_line(bytes, line.start);
                 header.check()?;
                 return Ok(header);
             }
@@ -200,7 +198,11 @@ impl<'a> Header<'a> {
         if ours && self.named(name.bytes).is_some() {
             return Err(name.bad("is the name of an element before it"));
         }
-        self.elements.push(Element { name, count: count.count()?, properties: Vec::new() });
+        let items = count.count()?;
+        if ours && items > text::MOST {
+            return Err(count.bad(format!("is more than the {} that are read", text::MOST)));
+        }
+        self.elements.push(Element { name, count: items, properties: Vec::new() });
         Ok(())
     }
 
@@ -322,7 +324,7 @@ struct Item<'a> {
 
 impl fmt::Display for Item<'_> {
     fn fmt(&self, f: &mut fmt::Formatter<'_>) -> fmt::Result {
-        write!(f, "{} {} of {}", plain(self.element), self.number, self.of)
+        write!(f, "{} {} of {}, counted from 0", plain(self.element), self.number, self.of)
     }
 }
 
@@ -409,15 +411,11 @@ impl Reader {
     }
 
     fn take_corner(&mut self, number: Whole) -> Result<(), BadFile> {
-        let vertices = self.vertices;
-        let corner = u32::try_from(number.value).ok();
-        let corner = corner.filter(|&corner| (corner as usize) < vertices);
-        let Some(corner) = corner else {
-            let what = format!("is no vertex: the file has {vertices}, from 0");
-            return Err(number.bad(what));
-        };
-        self.piece.cell.corners.push(corner);
-        self.piece.corner_starts.push(number.start);
+        let corner = text::vertex(number.value, self.vertices).map_err(|what| number.bad(what))?;
+        if self.piece.cell.corners.len() >= text::MOST {
+            return Err(BadFile { at: number.at, what: text::too_many("corners") });
+        }
+        self.piece.push_corner(corner, number.start);
         Ok(())
     }
 
@@ -612,7 +610,7 @@ pub fn write(pieces: &[Piece], encoding: Encoding) -> Result<Written, String> {
     let mut bytes = header_text(piece, encoding, long).into_bytes();
     if encoding == Encoding::Text {
         text::no_nan(pieces)?;
-        bytes.extend(items_text(piece).bytes());
+        bytes.extend(text::items_text(piece).bytes());
     } else {
         Binary { bytes: &mut bytes, order: encoding }.put_items(piece, long);
     }
@@ -634,22 +632,6 @@ fn header_text(piece: &Piece, encoding: Encoding, long: bool) -> String {
          element vertex {vertices}\nproperty double x\nproperty double y\nproperty double z\n\
          element face {faces}\nproperty list {count} int vertex_indices\nend_header\n"
     )
-}
-
-fn items_text(piece: &Piece) -> String {
-    let mut out = String::new();
-    for &point in &piece.cell.points {
-        out += &text::point_text(point);
-        out.push('\n');
-    }
-    for face in piece.cell.as_cell().faces() {
-        out += &face.len().to_string();
-        for corner in face {
-            out += &format!(" {corner}");
-        }
-        out.push('\n');
-    }
-    out
 }
 
 /// A file in bytes that is being written.
@@ -687,7 +669,7 @@ impl Binary<'_> {
 #[cfg(test)]
 mod tests {
     use super::*;
-    use crate::formats::testing::{cells, damaged, same_cells};
+    use crate::formats::testing::{cells, damaged, holds, same_cells};
     use proptest::prelude::*;
 
     /// A header up to its elements.
@@ -930,20 +912,20 @@ mod tests {
     fn lies_of_a_text() {
         let faces = "element face 2\nproperty list uchar int vertex_indices\n";
         let cases = [
-            ("", "line 9: the file ends before vertex 0 of 1"),
-            ("\n\n", "line 11: the file ends before vertex 0 of 1"),
-            ("1 2\n", "line 10: the line ends in the middle of vertex 0 of 1"),
+            ("", "line 9: the file ends before vertex 0 of 1, counted from 0"),
+            ("\n\n", "line 11: the file ends before vertex 0 of 1, counted from 0"),
+            ("1 2\n", "line 10: the line ends in the middle of vertex 0 of 1, counted from 0"),
             ("1 2 abc\n", "line 10: 'abc' is no number"),
-            ("1 2 3 4\n", "line 10: '4' follows the last number of vertex 0 of 1"),
-            ("1 2 3\n1 0\n", "line 11: the file ends before face 1 of 2"),
-            ("1 2 3\n1 0\n2 0\n", "line 12: the line ends in the middle of face 1 of 2"),
+            ("1 2 3 4\n", "line 10: '4' follows the last number of vertex 0 of 1, counted from 0"),
+            ("1 2 3\n1 0\n", "line 11: the file ends before face 1 of 2, counted from 0"),
+            ("1 2 3\n1 0\n2 0\n", "line 12: the line ends in the middle of face 1 of 2, counted from 0"),
             ("1 2 3\n-1 0\n", "line 11: '-1' is no count"),
             ("1 2 3\n1.0 0\n", "line 11: '1.0' is no whole number"),
             ("1 2 3\n1 0.0\n", "line 11: '0.0' is no whole number"),
             ("1 2 3\n1 1\n", "line 11: '1' is no vertex: the file has 1, from 0"),
             ("1 2 3\n1 -1\n", "line 11: '-1' is no vertex: the file has 1, from 0"),
             ("1 2 3\n1 4294967296\n", "line 11: '4294967296' is no vertex: the file has 1, from 0"),
-            ("1 2 3\n9000000000000000000 0\n", "line 11: the line ends in the middle of face 0 of 2"),
+            ("1 2 3\n9000000000000000000 0\n", "line 11: the line ends in the middle of face 0 of 2, counted from 0"),
             ("1 2 3\n0\n0\n\n x\n", "line 14: 'x' follows the last item"),
         ];
         for (items, told) in cases {
@@ -961,11 +943,11 @@ mod tests {
                 .replace(&format!("byte {}:", bytes.len()), "the end:")
         };
         let ends = "the end: the file ends";
-        assert_eq!(told("char char", &[1, 0]), format!("{ends} before face 1 of 2"));
-        let middle = format!("{ends} in the middle of face 1 of 2");
+        assert_eq!(told("char char", &[1, 0]), format!("{ends} before face 1 of 2, counted from 0"));
+        let middle = format!("{ends} in the middle of face 1 of 2, counted from 0");
         assert_eq!(told("char char", &[1, 0, 3, 0, 0]), middle);
         assert_eq!(told("char int", &[0, 1, 2, 0, 0]), middle);
-        let middle = format!("{ends} in the middle of face 0 of 2");
+        let middle = format!("{ends} in the middle of face 0 of 2, counted from 0");
         assert_eq!(told("uint int", &[255, 255, 255, 255, 0, 0, 0, 0]), middle);
         assert_eq!(told("uint int", &[1, 0]), middle);
         assert_eq!(told("char char", &[255, 0]), "byte 0: '-1' is no count");
@@ -986,13 +968,15 @@ mod tests {
 
     #[test]
     fn counts_that_no_file_holds() {
-        let text = one_vertex("", "1 2 3\n").replace("vertex 1", "vertex 9223372036854775807");
-        let told = "line 8: the file ends before vertex 1 of 9223372036854775807";
-        assert_eq!(refusal(text), told);
+        let claimed = |count: &str| one_vertex("", "1 2 3\n").replace("vertex 1", &format!("vertex {count}"));
+        let told = "line 8: the file ends before vertex 1 of 16777216, counted from 0";
+        assert_eq!(refusal(claimed("16777216")), told);
+        let told = "line 3: '9223372036854775807' is more than the 16777216 that are read";
+        assert_eq!(refusal(claimed("9223372036854775807")), told);
         let lists = "property list uint double a\n";
         let header = one_vertex(lists, "").replace("ascii", "binary_little_endian");
         let bytes = [header.as_bytes(), &[0; 12], &[255; 4]].concat();
-        let told = format!("byte {}: the file ends in the middle of vertex 0 of 1", bytes.len());
+        let told = format!("byte {}: the file ends in the middle of vertex 0 of 1, counted from 0", bytes.len());
         assert_eq!(refusal(&bytes), told);
     }
 
@@ -1074,26 +1058,6 @@ mod tests {
         assert!(told.starts_with("vertex 1 has a coordinate that is no number"), "{told}");
     }
 
-    /// What must hold of whatever is read.
-    fn holds_together(drawing: &Drawing, bytes: &[u8]) -> Result<(), TestCaseError> {
-        let piece = &drawing.pieces[0];
-        let vertices = piece.cell.points.len();
-        prop_assert!(piece.cell.corners.iter().all(|&corner| (corner as usize) < vertices));
-        prop_assert_eq!(piece.vertex_numbers.len(), vertices);
-        prop_assert_eq!(piece.cell.ends.len(), piece.faces.len());
-        prop_assert_eq!(piece.cell.corners.len(), piece.corner_starts.len());
-        let last = piece.cell.ends.last().copied().unwrap_or(0);
-        prop_assert_eq!(last as usize, piece.cell.corners.len());
-        let width = match drawing.corner_width {
-            CornerWidth::Bytes(width) => width,
-            _ => 1,
-        };
-        let starts = &piece.corner_starts;
-        prop_assert!(starts.windows(2).all(|pair| pair[0] + width <= pair[1]));
-        prop_assert!(starts.iter().all(|start| start + width <= bytes.len()));
-        Ok(())
-    }
-
     const TEXT: &[u8] = b"ply\nformat ascii 1.0\nelement vertex 3\nproperty float x\n\
         property float y\nproperty float z\nelement face 2\n\
         property list uchar int vertex_index\nend_header\n0 0 0\n1 0 0\n0 1 0\n3 0 1 2\n3 2 1 0\n";
@@ -1127,7 +1091,7 @@ mod tests {
             let written = write(&pieces, encoding).unwrap();
             let drawing = read(&written.bytes).unwrap();
             same_cells(&pieces, &drawing.pieces)?;
-            holds_together(&drawing, &written.bytes)?;
+            holds(&drawing, &written.bytes)?;
         }
 
         #[test]
@@ -1143,7 +1107,7 @@ mod tests {
             bytes in prop_oneof![damaged(TEXT), damaged(LITTLE), damaged(BIG)]
         ) {
             if let Ok(drawing) = read(&bytes) {
-                holds_together(&drawing, &bytes)?;
+                holds(&drawing, &bytes)?;
             }
         }
 

@@ -4,7 +4,7 @@ use std::collections::HashMap;
 use std::fmt;
 use std::ops::Range;
 
-use super::text::{self, Word};
+use super::text::{self, Line, Word};
 use super::{Encoding, Written, name_told, queries_told};
 use crate::model::{BadFile, CornerWidth, Drawing, FacePlace, Piece};
 
@@ -90,8 +90,7 @@ impl Solid {
             self.piece.cell.points.push(point);
             self.piece.vertex_numbers.push(text::numbered(before, 1));
         }
-        self.piece.cell.corners.push(corner);
-        self.piece.corner_starts.push(start);
+        self.piece.push_corner(corner, start);
     }
 }
 
@@ -150,8 +149,7 @@ impl<'a> Words<'a> {
     fn next(&mut self) -> Option<Word<'a>> {
         let rest = &self.bytes[self.at..];
         let blank = rest.iter().position(|byte| !byte.is_ascii_whitespace())?;
-        let ends = rest[..blank].iter().filter(|&&byte| byte == b'\n');
-        self.line += ends.count();
+        self.line += text::line_ends(&rest[..blank]);
         let rest = &rest[blank..];
         let length = rest.iter().position(u8::is_ascii_whitespace);
         let word = Word { line: self.line, start: self.at + blank, bytes: &rest[..length.unwrap_or(rest.len())] };
@@ -162,7 +160,7 @@ impl<'a> Words<'a> {
     /// What follows on the line, without the white space around it.
     fn rest_of_line(&mut self) -> &'a [u8] {
         let rest = &self.bytes[self.at..];
-        let length = rest.iter().position(|&byte| byte == b'\n');
+        let length = rest.iter().position(|byte| matches!(byte, b'\n' | b'\r'));
         let rest = &rest[..length.unwrap_or(rest.len())];
         self.at += rest.len();
         rest.trim_ascii()
@@ -212,9 +210,14 @@ fn read_text(bytes: &[u8]) -> Result<Drawing, BadFile> {
     let mut facets = 0;
     while let Some(word) = words.next() {
         must_be(word, "solid")?;
-        let piece = read_solid(&mut words, facets)?;
+        let piece = read_solid(&mut drawing, &mut words, facets)?;
         facets += piece.faces.len();
         drawing.pieces.push(piece);
+    }
+    if drawing.pieces.len() > 1 {
+        for (piece, place) in drawing.pieces.iter_mut().zip(1..) {
+            piece.name.get_or_insert_with(|| format!("solid {place}"));
+        }
     }
     if facets > 0 {
         drawing.passed_over.insert("normals".to_string());
@@ -223,17 +226,17 @@ fn read_text(bytes: &[u8]) -> Result<Drawing, BadFile> {
 }
 
 /// A solid behind its first word, in a file that has so many facets before it.
-fn read_solid(words: &mut Words<'_>, before: usize) -> Result<Piece, BadFile> {
+fn read_solid(drawing: &mut Drawing, words: &mut Words<'_>, before: usize) -> Result<Piece, BadFile> {
     let mut solid = Solid::default();
+    let line = words.line;
     let name = words.rest_of_line();
     if !name.is_empty() {
-        solid.piece.name = Some(text::name(name));
+        solid.piece.name = Some(drawing.name(name, line));
     }
     loop {
         let word = words.wanted("'facet' or 'endsolid'")?;
         if is(word, "endsolid") {
-            words.rest_of_line();
-            return Ok(solid.piece);
+            return end_of_solid(words, word).map(|()| solid.piece);
         }
         if !is(word, "facet") {
             return Err(word.bad("stands where 'facet' or 'endsolid' should"));
@@ -247,11 +250,22 @@ fn read_solid(words: &mut Words<'_>, before: usize) -> Result<Piece, BadFile> {
     }
 }
 
+/// Passes over the name behind `endsolid`. A name ends with its line, so that a solid behind it would be lost.
+fn end_of_solid(words: &mut Words<'_>, end: Word<'_>) -> Result<(), BadFile> {
+    let name = Line { number: end.line, start: 0, bytes: words.rest_of_line() };
+    match name.words().find(|&word| is(word, "endfacet")) {
+        Some(_) => Err(end.bad("is followed by a solid on the same line")),
+        None => Ok(()),
+    }
+}
+
 /// A facet behind its first word.
 fn read_facet(words: &mut Words<'_>, solid: &mut Solid) -> Result<(), BadFile> {
     words.keyword("normal")?;
-    // The normal is not kept, but `turn` changes its signs, so it must be one.
-    words.point()?;
+    // The normal is not kept: some programs write words there that are no numbers.
+    for _ in 0..3 {
+        words.wanted("a number")?;
+    }
     words.keyword("outer")?;
     words.keyword("loop")?;
     for _ in 0..3 {
@@ -289,7 +303,7 @@ fn turned_bytes(number: &[u8]) -> Vec<u8> {
 
 fn turned_word(word: Word<'_>) -> Vec<u8> {
     match word.bytes {
-        same if word.number() == Ok(0.0) => same.to_vec(),
+        same if word.number().is_ok_and(|x| x == 0.0) || word.number().is_err() => same.to_vec(),
         [b'-', rest @ ..] => rest.to_vec(),
         [b'+', rest @ ..] | rest => [b"-", rest].concat(),
     }
@@ -558,7 +572,7 @@ mod tests {
         let text = format!("solid\n{one}{two}endsolid\nsolid b\nendsolid c\nsolid d\n{two}endsolid");
         let pieces = read(text.as_bytes()).unwrap().pieces;
         let names: Vec<_> = pieces.iter().map(|piece| piece.name.as_deref()).collect();
-        assert_eq!(names, [None, Some("b"), Some("d")]);
+        assert_eq!(names, [Some("solid 1"), Some("b"), Some("d")]);
         let corners: Vec<_> = pieces.iter().map(|piece| &piece.cell.corners[..]).collect();
         assert_eq!(corners, [&[0, 1, 2, 3, 0, 1][..], &[], &[0, 1, 2]]);
         let numbers = pieces.iter().map(|piece| piece.faces.iter().map(|face| face.number));
@@ -566,6 +580,22 @@ mod tests {
         assert_eq!(numbers, [vec![1, 2], vec![], vec![3]]);
         assert_eq!(pieces[2].vertex_numbers, [1, 2, 3]);
         assert_eq!(pieces[2].faces[0].line, Some(20));
+    }
+
+    #[test]
+    fn a_solid_on_the_line_of_another_is_not_lost() {
+        let one = facet("0 0 0 1 0 0 0 1 0").replace('\n', " ");
+        let told = "line 2: 'endsolid' is followed by a solid on the same line";
+        assert_eq!(refusal(format!("solid a\n{one}endsolid a solid b {one}endsolid b\n")), told);
+    }
+
+    #[test]
+    fn a_normal_that_is_no_number_is_passed_over_and_kept() {
+        let text = facet("0 0 0 1 0 0 0 1 0").replace("normal 0 0 1", "normal -nan(ind) 1.#QNAN -1");
+        let text = format!("solid\n{text}endsolid");
+        let face = read(text.as_bytes()).unwrap().pieces[0].faces[0];
+        let turned: Vec<Vec<u8>> = turned_normal(text.as_bytes(), &face).into_iter().map(|(_, put)| put).collect();
+        assert_eq!(turned, [&b"-nan(ind)"[..], b"1.#QNAN", b"1"]);
     }
 
     #[test]
@@ -627,7 +657,8 @@ mod tests {
             ("solid\nfacet\n\n", "line 3: the file ends where 'normal' should stand"),
             ("solid\nvertex", "line 2: 'vertex' stands where 'facet' or 'endsolid' should"),
             ("solid\nfacet norm", "line 2: 'norm' stands where 'normal' should"),
-            ("solid\nfacet normal 0 0 z", "line 2: 'z' is no number"),
+            ("solid\nfacet normal 0 0", "line 2: the file ends where a number should stand"),
+            ("solid\rfacet norm", "line 2: 'norm' stands where 'normal' should"),
             ("solid\nendsolid\nsolids", "line 3: 'solids' stands where 'solid' should"),
         ];
         for (text, told) in cases {

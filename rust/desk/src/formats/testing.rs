@@ -2,7 +2,7 @@
 
 use proptest::prelude::*;
 
-use crate::model::{FacePlace, Piece};
+use crate::model::{CornerWidth, Drawing, FacePlace, Piece};
 
 /// A piece as a test by hand looks at it.
 #[derive(Debug, PartialEq)]
@@ -83,4 +83,31 @@ pub fn damaged(file: &'static [u8]) -> impl Strategy<Value = Vec<u8>> {
         }
         bytes
     })
+}
+
+/// Makes sure that the lists of what was read fit each other and the file.
+pub fn holds_together(drawing: &Drawing, bytes: &[u8]) -> Result<(), TestCaseError> {
+    let width = match drawing.corner_width {
+        CornerWidth::Bytes(width) => width,
+        _ => 1,
+    };
+    for piece in &drawing.pieces {
+        prop_assert_eq!(piece.vertex_numbers.len(), piece.cell.points.len());
+        prop_assert_eq!(piece.cell.ends.len(), piece.faces.len());
+        prop_assert_eq!(piece.cell.corners.len(), piece.corner_starts.len());
+        prop_assert_eq!(piece.cell.ends.last().copied().unwrap_or(0) as usize, piece.cell.corners.len());
+        let starts = &piece.corner_starts;
+        prop_assert!(starts.windows(2).all(|pair| pair[0] + width <= pair[1]));
+        prop_assert!(starts.iter().all(|start| start + width <= bytes.len()));
+    }
+    Ok(())
+}
+
+/// Makes sure, besides, that every corner names a vertex, as it does in all files but those of cells.
+pub fn holds(drawing: &Drawing, bytes: &[u8]) -> Result<(), TestCaseError> {
+    for piece in &drawing.pieces {
+        let vertices = piece.cell.points.len();
+        prop_assert!(piece.cell.corners.iter().all(|&corner| (corner as usize) < vertices));
+    }
+    holds_together(drawing, bytes)
 }

@@ -32,15 +32,32 @@ pub fn text_start(bytes: &[u8]) -> usize {
     if bytes.starts_with(BYTE_ORDER_MARK) { BYTE_ORDER_MARK.len() } else { 0 }
 }
 
-/// The lines of a file.
+/// The lines of a file. A line feed ends one, a carriage return, or both together.
 pub fn lines(bytes: &[u8]) -> impl Iterator<Item = Line<'_>> {
     let mut start = text_start(bytes);
-    let pieces = bytes[start..].split_inclusive(|&byte| byte == b'\n').enumerate();
-    pieces.map(move |(before, piece)| {
-        let line = Line { number: before + 1, start, bytes: piece.trim_ascii_end() };
-        start += piece.len();
-        line
+    (1..).map_while(move |number| {
+        let next = next_line(bytes, start);
+        let line = Line { number, start, bytes: bytes[start..next].trim_ascii_end() };
+        let more = start < next;
+        start = next;
+        more.then_some(line)
     })
+}
+
+/// How many lines end in these bytes.
+pub fn line_ends(bytes: &[u8]) -> usize {
+    let returns = bytes.iter().enumerate().filter(|&(at, &byte)| byte == b'\r' && bytes.get(at + 1) != Some(&b'\n'));
+    bytes.iter().filter(|&&byte| byte == b'\n').count() + returns.count()
+}
+
+/// The byte at which the line ends that goes on here, and the next one starts.
+pub fn next_line(bytes: &[u8], start: usize) -> usize {
+    let rest = &bytes[start..];
+    match rest.iter().position(|byte| matches!(byte, b'\n' | b'\r')) {
+        Some(at) if rest[at..].starts_with(b"\r\n") => start + at + 2,
+        Some(at) => start + at + 1,
+        None => bytes.len(),
+    }
 }
 
 impl<'a> Line<'a> {
@@ -107,15 +124,37 @@ pub fn point<'a>(line: Line<'a>, words: &mut impl Iterator<Item = Word<'a>>) -> 
     Ok(point)
 }
 
+/// The most vertices, faces, corners and names of a file: 2^24. A byte of a text can stand for a face, and a face takes
+/// some eighty bytes of memory, so that memory would go far beyond the file without it.
+pub const MOST: usize = 1 << 24;
+
+/// Makes sure that a file that has so many already may have one more.
+pub fn within(count: usize, what: &str, line: usize) -> Result<(), BadFile> {
+    if count < MOST { Ok(()) } else { Err(BadFile::line(line, too_many(what))) }
+}
+
+/// What is told of a file that has more than it may.
+pub fn too_many(what: &str) -> String {
+    format!("the file has more than {MOST} {what}")
+}
+
+/// Makes sure that the words behind what is read are numbers, as colours and weights are.
+pub fn only_numbers<'a>(words: impl Iterator<Item = Word<'a>>) -> Result<(), BadFile> {
+    words.map(Word::number).try_for_each(|number| number.map(|_| ()))
+}
+
 /// Adds a corner, by its word, to the face that is being read. The vertices of the file are counted
 /// from 0, and there are so many.
 pub fn push_corner(piece: &mut Piece, word: Word<'_>, vertices: usize) -> Result<(), BadFile> {
-    let number = word.whole()?;
-    let corner = u32::try_from(number).ok().filter(|&corner| (corner as usize) < vertices);
-    let corner = corner.ok_or_else(|| word.bad(format!("is no vertex: the file has {vertices}, from 0")))?;
-    piece.cell.corners.push(corner);
-    piece.corner_starts.push(word.start);
+    let corner = vertex(word.whole()?, vertices).map_err(|what| word.bad(what))?;
+    piece.push_corner(corner, word.start);
     Ok(())
+}
+
+/// The vertex of this number, of so many that are counted from 0; or what is wrong with it.
+pub fn vertex(number: i64, vertices: usize) -> Result<u32, String> {
+    let vertex = u32::try_from(number).ok().filter(|&vertex| (vertex as usize) < vertices);
+    vertex.ok_or_else(|| format!("is no vertex: the file has {vertices}, from 0"))
 }
 
 /// Where a face stands that has so many before it.
@@ -146,6 +185,16 @@ pub fn point_text(point: [f64; 3]) -> String {
     point.map(decimals).join(" ")
 }
 
+/// A line for each vertex, and for each face its count and its corners: the items of OFF and of PLY.
+pub fn items_text(piece: &Piece) -> String {
+    let points = piece.cell.points.iter().map(|&point| point_text(point) + "\n");
+    let faces = piece.cell.as_cell().faces().map(|face| {
+        let corners: String = face.iter().map(|corner| format!(" {corner}")).collect();
+        format!("{}{corners}\n", face.len())
+    });
+    points.chain(faces).collect()
+}
+
 /// Makes sure that decimals can say every coordinate: a NaN has bits that they do not.
 pub fn no_nan(pieces: &[Piece]) -> Result<(), String> {
     for piece in pieces {
@@ -167,8 +216,8 @@ mod tests {
 
     #[test]
     fn lines_know_their_numbers_and_places() {
-        let found: Vec<_> = lines(b"ab \r\n\nc").map(|l| (l.number, l.start, l.bytes)).collect();
-        assert_eq!(found, [(1, 0, &b"ab"[..]), (2, 5, b""), (3, 6, b"c")]);
+        let found: Vec<_> = lines(b"ab \r\n\nc\rd\r\re").map(|l| (l.number, l.start, l.bytes)).collect();
+        assert_eq!(found, [(1, 0, &b"ab"[..]), (2, 5, b""), (3, 6, b"c"), (4, 8, b"d"), (5, 10, b""), (6, 11, b"e")]);
     }
 
     #[test]

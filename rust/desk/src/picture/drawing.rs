@@ -3,8 +3,9 @@
 use super::labels::{self, Group, Sheet};
 use super::order::{Seen, back_to_front};
 use super::scene::Scene;
-use super::text::{counted, px, px_list};
+use super::text::{px, px_list};
 use super::views::{Flat, Rect, View, level_middles, middle_of};
+use crate::words::counted;
 
 /// The colour of plain sides and of words.
 pub const DARK: &str = "#222";

@@ -40,6 +40,7 @@ pub fn sound(volume: f64) -> Measured {
         torn: Vec::new(),
         unturnable: None,
         short: Vec::new(),
+        groups: 1,
         local: None,
     }
 }

@@ -146,8 +146,12 @@ impl Sheet {
         let covered: f64 = self.taken.iter().map(hides).sum();
         let outside = rect.size()[0] * rect.size()[1] - shared(&self.frame, rect);
         let out = if outside > 1.0 { TOO_MUCH } else { 0.0 };
+        if covered + out >= TOO_MUCH {
+            // No line can make it worse, and there may be thousands.
+            return covered + out;
+        }
         let cut = self.lines.iter().filter(|&&line| cuts(line, rect)).count();
-        covered + out + 14.0 * cut as f64
+        14.0 * cut as f64
     }
 }
 

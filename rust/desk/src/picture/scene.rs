@@ -3,10 +3,11 @@
 use std::array::from_fn;
 
 use super::Drawn;
-use super::text::{counted, measure};
+use super::text::measure;
 use super::views::Point;
 use crate::findings::{Measured, ShortFace, Side};
 use crate::model::Piece;
+use crate::words::counted;
 
 /// How many faces a drawn cell may have. The library's own limit is far below; this one is for
 /// cells that it refuses.

@@ -49,11 +49,6 @@ pub fn measure(number: f64) -> String {
     if number.is_finite() { decimals(number) } else { "no finite number".to_string() }
 }
 
-/// How many there are of a thing.
-pub fn counted(count: usize, one: &str, more: &str) -> String {
-    format!("{count} {}", if count == 1 { one } else { more })
-}
-
 /// About how wide a text is drawn. Only a guess, since the font is the reader's: rather too wide.
 pub fn width(text: &str, size: f64) -> f64 {
     let letters = text.chars().map(|c| if c.is_ascii() { 0.6 } else { 1.0 });

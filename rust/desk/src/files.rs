@@ -91,13 +91,22 @@ fn walk(folder: &Path, all: &mut Vec<Found>) {
     for entry in entries {
         let path = entry.path();
         // The kind of a link is that of a link: a folder that links to one above it is not entered.
-        if entry.file_type().is_ok_and(|kind| kind.is_dir()) {
-            walk(&path, all);
-        } else if Format::of_path(&path).is_some() && !path.is_dir() {
-            // A pipe would be waited for without end. A link to nothing is told of when it is read.
-            let waits = fs::metadata(&path).is_ok_and(|known| !known.is_file());
-            all.push(if waits { Err((path, "that is no plain file".to_string())) } else { Ok(path) });
+        match entry.file_type() {
+            Ok(kind) if kind.is_dir() => walk(&path, all),
+            _ if Format::of_path(&path).is_none() => {}
+            Ok(kind) if kind.is_file() => all.push(Ok(path)),
+            _ => all.extend(linked(path)),
         }
+    }
+}
+
+/// What a link in a folder gives. A link to nothing is told of when it is read, and a pipe, which would be waited for
+/// without end, here.
+fn linked(path: PathBuf) -> Option<Found> {
+    match fs::metadata(&path) {
+        Ok(known) if known.is_dir() => None,
+        Ok(known) if !known.is_file() => Some(Err((path, "that is no plain file".to_string()))),
+        _ => Some(Ok(path)),
     }
 }
 

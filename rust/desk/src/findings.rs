@@ -1,6 +1,6 @@
 //! What the library answers of a cell, and which of its sides and faces are to be looked at.
 
-use std::collections::{BTreeMap, BTreeSet};
+use std::collections::BTreeMap;
 
 use wegrusamt::{Cell, CellBuf, Refusal, space};
 
@@ -148,8 +148,11 @@ pub fn against_the_others(cell: Cell<'_>) -> Result<Vec<usize>, Refusal> {
 /// How many groups have a face of three corners or more: the others have no surface.
 pub fn surfaces(cell: Cell<'_>) -> usize {
     let group = groups(cell);
-    let with_surface = cell.faces().enumerate().filter(|(_, corners)| corners.len() > 2).map(|(face, _)| group[face]);
-    with_surface.collect::<BTreeSet<usize>>().len()
+    let mut with_surface = vec![false; group.len()];
+    for (face, corners) in cell.faces().enumerate() {
+        with_surface[group[face]] |= corners.len() > 2;
+    }
+    with_surface.into_iter().filter(|&surface| surface).count()
 }
 
 /// For each face the lowest face of its group, of those joined by sides.
@@ -161,13 +164,18 @@ fn groups(cell: Cell<'_>) -> Vec<usize> {
         }
         face
     }
-    let mut of: Vec<usize> = (0..cell.ends.len()).collect();
-    let mut having: BTreeMap<(u32, u32), usize> = BTreeMap::new();
+    // Faces that have a side stand behind each other once the sides are in order.
+    let mut having: Vec<(u32, u32, usize)> = Vec::with_capacity(cell.corners.len());
     for (face, corners) in cell.faces().enumerate() {
-        for (i, j) in sides(corners) {
-            let other = *having.entry((i.min(j), i.max(j))).or_insert(face);
-            let [a, b] = [face, other].map(|face| lowest(&mut of, face));
-            of[a.max(b)] = a.min(b);
+        having.extend(sides(corners).map(|(i, j)| (i.min(j), i.max(j), face)));
+    }
+    having.sort_unstable();
+    let mut of: Vec<usize> = (0..cell.ends.len()).collect();
+    for pair in having.windows(2) {
+        let [(a, b, face), (c, d, other)] = [pair[0], pair[1]];
+        if (a, b) == (c, d) {
+            let [low, high] = [face, other].map(|face| lowest(&mut of, face));
+            of[low.max(high)] = low.min(high);
         }
     }
     (0..of.len()).map(|face| lowest(&mut of, face)).collect()

@@ -237,7 +237,7 @@ def broken(r, words, between=" "):
     """The words of a line, which may go on in the next."""
     said = words[0]
     for w in words[1:]:
-        said += (" \\\n" if chance(r, 0.1) else between) + w
+        said += (r.choice([" \\\n", "\\\n", " \\\n\t"]) if chance(r, 0.1) else between) + w
     return said
 
 
@@ -367,7 +367,7 @@ def off(r):
         said += [r.choice(["# a remark", "", "   "])] * chance(r, 0.05)
         said.append(line + r.choice([" # so", "", "", "", "", "", " "]))
     said += ["# the end"] * chance(r, 0.2)
-    feed = r.choice(["\n", "\n", "\r\n"])
+    feed = r.choice(["\n", "\n", "\r\n", "\r"])
     return Plan(".off", (feed.join(said) + feed * chance(r, 0.9)).encode(), [(None, vertices, faces)])
 
 
@@ -466,9 +466,10 @@ def ply(r):
     head.append("end_header")
     items = [(columns, k) for _, many, columns in elements for k in range(many)]
     if order:
-        data = "\n".join(head).encode() + b"\n" + b"".join(c.packed(order, k) for columns, k in items for c in columns)
+        feed = r.choice(["\n", "\n", "\r\n", "\r"])
+        data = (feed.join(head) + feed).encode() + b"".join(c.packed(order, k) for columns, k in items for c in columns)
     else:
-        feed = r.choice(["\n", "\n", "\r\n"])
+        feed = r.choice(["\n", "\n", "\r\n", "\r"])
         text = head + [" ".join(w for c in columns for w in c.words(r, k)) for columns, k in items]
         data = (feed.join(text) + feed * r.choice([1, 1, 1, 2, 3])).encode()
     return Plan(".ply", data, [(None, vertices, faces)])

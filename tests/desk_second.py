@@ -255,7 +255,10 @@ class Header:
             if line == 1 and texts != [b"ply"]:
                 break
             if texts == [b"end_header"]:
-                self.start, self.line = data.find(b"\n", start) + 1 or len(data), line + 1
+                # A header that ends its lines with carriage returns alone ends its last line so, too.
+                ends = re.compile(rb"\r") if re.match(rb"ply\r(?!\n)", data) else LINE_END
+                after = ends.search(data, start)
+                self.start, self.line = after.end() if after else len(data), line + 1
                 break
             if line > 1:
                 self.take(texts, line)
@@ -267,7 +270,7 @@ class Header:
         key = texts[0] if texts else b""
         if key == b"format" and len(texts) == 3 and texts[1] in FORMATS:
             self.order = FORMATS[texts[1]]
-        elif key == b"element" and len(texts) == 3 and re.fullmatch(rb"\d+", texts[2]):
+        elif key == b"element" and len(texts) == 3 and WHOLE.fullmatch(texts[2]) and int(texts[2]) >= 0:
             self.elements.append(Element(texts[1], int(texts[2]), []))
         elif key == b"property" and len(texts) > 2 and self.elements:
             self.elements[-1].properties.append(ply_property(texts[1:]))

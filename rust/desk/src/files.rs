@@ -5,7 +5,7 @@ use std::io::{self, Read, Write};
 use std::path::{Path, PathBuf};
 use std::process;
 
-use crate::formats::Format;
+use crate::formats::{Format, text};
 use crate::model::Drawing;
 
 /// The most bytes of a file that is read: 1 GiB.
@@ -126,7 +126,7 @@ pub fn write_whole(path: &Path, bytes: &[u8], replace: bool) -> Result<(), Strin
     let mut file = OpenOptions::new().write(true).create_new(true).open(&part).map_err(|error| {
         // The part is named where it is what stands in the way: it may be left from a run that was broken off.
         if error.kind() == io::ErrorKind::AlreadyExists {
-            format!("{}: {error}", part.display())
+            format!("{}: {error}", text::name(part.as_os_str().as_encoded_bytes()))
         } else {
             error.to_string()
         }

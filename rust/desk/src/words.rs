@@ -103,7 +103,7 @@ impl Report<'_> {
                 faults.extend(self.torn(found, wish));
                 faults.extend(found.unturnable.map(unturnable));
                 faults.extend(self.short(found, wish));
-                faults.extend(found.local.as_ref().and_then(|local| about_local(local, found)));
+                faults.extend(found.local.as_ref().map(|local| about_local(local, found)));
                 faults.extend(about_groups(found.groups));
                 faults
             }
@@ -214,7 +214,7 @@ impl Report<'_> {
             found.unturnable.map_or(String::new(), |refusal| refusal.number().to_string()),
             faces(found.short.iter().map(|short| short.face).collect()),
             found.groups.to_string(),
-            found.local.as_ref().and_then(|local| about_local(local, found)).unwrap_or_default(),
+            found.local.as_ref().map_or(String::new(), |local| about_local(local, found)),
         ]
     }
 }
@@ -241,30 +241,31 @@ fn unturnable(refusal: Refusal) -> String {
     format!("turning faces cannot close it: {why} ({})", refusal.number())
 }
 
-/// What the cell measures about a local origin, and why that is another number; nothing where it is there already.
-fn about_local(local: &Result<Local, Refusal>, found: &Measured) -> Option<String> {
+/// What the cell measures about a local origin, and why that is another number.
+fn about_local(local: &Result<Local, Refusal>, found: &Measured) -> String {
     let local = match local {
-        Ok(local) if local.vector == [0.0; 3] => return None,
         Ok(local) => local,
-        Err(refusal) => return Some(format!("moved to a local origin the cell is beyond the limits: {refusal}")),
+        Err(refusal) => return format!("moved to a local origin the cell is beyond the limits: {refusal}"),
     };
-    let left: Vec<&str> =
-        ["x", "y", "z"].into_iter().zip(local.exact).filter(|(_, exact)| !exact).map(|(axis, _)| axis).collect();
+    let axes = ["x", "y", "z"].into_iter().zip(local.exact);
+    let left: Vec<&str> = axes.filter(|(_, exact)| !exact).map(|(axis, _)| axis).collect();
     let exactly = match &left[..] {
+        [_, _, _] => {
+            return "it was not moved to a local origin, since along no axis the move is exact (15)".to_string();
+        }
+        [] if local.vector == [0.0; 3] => {
+            return "it was not moved: its first vertex lies within 1 of the origin".to_string();
+        }
         [] => "exactly".to_string(),
-        axes => format!("not along {}, where the move is not exact", axes.join(" and ")),
+        axes => format!("but not along {}, where the move is not exact (15)", axes.join(" and ")),
     };
     let cut = match local.short {
         0 => "every face is fully cut".to_string(),
         short => format!("{} still cut short", counted(short, "face is", "faces are")),
     };
-    let why = if local.short < found.short.len() {
-        ", since less is rounded there"
-    } else {
-        "; so it is not for the distance"
-    };
+    let why = if local.short < found.short.len() { ", since less is rounded there" } else { "" };
     let (vector, volume) = (point_text(local.vector), decimals(local.volume));
-    Some(format!("about a local origin, with {vector} taken off every vertex, {exactly}, {cut}: volume {volume}{why}"))
+    format!("about a local origin, with {vector} taken off every vertex, {exactly}, {cut}: volume {volume}{why}")
 }
 
 /// What is to be known of a cell with no surface, or with several.

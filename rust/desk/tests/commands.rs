@@ -168,7 +168,7 @@ fn where_the_move_is_not_exact_it_is_said_along_which_axis() {
     let object: serde_json::Value = serde_json::from_str(&out).unwrap();
     assert_eq!(object["local"]["exact"], serde_json::json!([false, true, true]), "{out}");
     let (_, out, _) = desk.call("survey near-x.obj");
-    assert!(out.contains("not along x, where the move is not exact"), "{out}");
+    assert!(out.contains("but not along x, where the move is not exact (15)"), "{out}");
 }
 
 #[test]
@@ -321,13 +321,36 @@ fn several_groups_are_told_by_survey_and_turn() {
 }
 
 #[test]
-fn a_face_that_crosses_itself_is_not_short_for_the_distance() {
+fn what_is_said_of_the_move_is_what_was_moved() {
     let desk = Desk::new();
-    // A face whose corners go round twice.
-    desk.put("a.obj", "v 2 2 0\nv 4 2 0\nv 3 4 0\nv 2 3 0\nv 4 3 0\nf 1 3 2 4 5\n");
-    let (status, out, _) = desk.call("survey a.obj");
-    assert_eq!(status, 1);
-    assert!(!out.contains("since less is rounded"), "{out}");
+    // A face that goes round twice is short wherever it lies.
+    let faces = "f 1 3 2 4 5 6 1 3 5\n";
+    desk.put("twice.obj", format!("v 5 5 5\nv 7 5 5\nv 6 7 5\nv 5 6 5\nv 7 6 5\nv 6 4 5\n{faces}"));
+    let out = desk.said("survey twice.obj", 1, "");
+    let moved =
+        "    about a local origin, with 5 5 5 taken off every vertex, exactly, 1 face is still cut short: volume ";
+    assert!(out.contains(moved) && !out.contains("since less is rounded"), "{out}");
+    desk.put("near.obj", format!("v 0 0 0.5\nv 2 0 0\nv 1 2 0\nv 0 1 0\nv 2 1 0\nv 1 -1 0\n{faces}"));
+    let out = desk.said("survey near.obj", 1, "");
+    assert!(out.contains("\n    it was not moved: its first vertex lies within 1 of the origin\n"), "{out}");
+    // The box of docs/LIMITS.md, with a vertex so near to 0 that no difference from a whole number holds it.
+    let foot =
+        [["8588590", "8529546"], ["8588590.05", "8529546"], ["8588590.05", "8529546.25"], ["8588590", "8529546.25"]];
+    let at = |z: &str| foot.map(|[x, y]| format!("v {x} {y} {z}\n")).concat();
+    let sides = "f 1 4 3 2\nf 5 6 7 8\nf 1 2 6 5\nf 3 4 8 7\nf 2 3 7 6\nf 4 1 5 8\n";
+    let thin = at("2969498") + &at("2969500");
+    desk.put("z.obj", format!("{thin}v 1e-12 1e-12 2969498.5\n{sides}"));
+    let out = desk.said("survey z.obj", 1, "");
+    assert!(
+        out.contains(" taken off every vertex, but not along x and y, where the move is not exact (15), "),
+        "{out}"
+    );
+    desk.put("none.obj", format!("{thin}v 1e-12 1e-12 1e-12\n{sides}"));
+    let out = desk.said("survey none.obj", 1, "");
+    assert!(
+        out.contains("\n    it was not moved to a local origin, since along no axis the move is exact (15)\n"),
+        "{out}"
+    );
 }
 
 #[test]

@@ -1,7 +1,7 @@
 //! Cells as records of 32 bytes (docs/FORMAT.md).
 
 use super::Written;
-use super::text::numbered;
+use super::text::{MOST_CELLS, numbered, too_many};
 use crate::model::{BadFile, CornerWidth, Drawing, FacePlace, Piece};
 
 /// The bytes of a record: a kind, seven zeros and three fields of eight bytes.
@@ -23,6 +23,9 @@ pub fn read(bytes: &[u8]) -> Result<Drawing, BadFile> {
         let start = place * RECORD;
         let taken = reader.take(record, start);
         let ended = taken.map_err(|what| BadFile::byte(start, format!("record {}: {what}", place + 1)))?;
+        if ended && pieces.len() >= MOST_CELLS {
+            return Err(BadFile::byte(start, too_many(MOST_CELLS, "cells")));
+        }
         if ended {
             pieces.push(std::mem::take(&mut reader).piece);
         }

@@ -73,7 +73,7 @@ impl Reader {
             self.current[kind as usize] = place;
             return Ok(());
         }
-        text::within(all.len(), "objects or groups", line.number)?;
+        text::within(all.len(), text::MOST_CELLS, "objects or groups", line.number)?;
         all.push(self.drawing.name(name, line.number));
         let place = text::numbered(all.len(), 0);
         places.insert(name.to_vec(), place);
@@ -84,7 +84,8 @@ impl Reader {
     /// Takes a line, and those that continue it.
     fn take<'a>(&mut self, line: Line<'a>, rest: &mut impl Iterator<Item = Line<'a>>) -> Result<(), BadFile> {
         // Of what is not read only the keyword is looked at, so a long line of it takes no room.
-        let unread = line.words().next().is_some_and(|word| !matches!(word.bytes, b"v" | b"f" | b"\\"));
+        let keyword = line.words().next().map_or(&b""[..], |word| word.bytes);
+        let unread = !matches!(keyword.strip_suffix(b"\\").unwrap_or(keyword), b"v" | b"f" | b"");
         let most = if unread { 1 } else { text::MOST + 2 };
         let mut words = Vec::new();
         let mut part = line;
@@ -95,7 +96,8 @@ impl Reader {
                 self.drawing.pass_over("comments");
             }
             let goes_on = if commented { None } else { said.bytes.strip_suffix(b"\\") };
-            words.extend(Line { bytes: goes_on.unwrap_or(said.bytes), ..said }.words().take(most));
+            let said = Line { bytes: goes_on.unwrap_or(said.bytes), ..said };
+            words.extend(said.words().take(most.saturating_sub(words.len())));
             if goes_on.is_none() {
                 break;
             }
@@ -120,7 +122,7 @@ impl Reader {
     }
 
     fn take_vertex(&mut self, line: Line<'_>, words: &[Word<'_>]) -> Result<(), BadFile> {
-        text::within(self.vertices.len(), "vertices", line.number)?;
+        text::within(self.vertices.len(), text::MOST, "vertices", line.number)?;
         self.vertices.push(text::point(line, &mut words.iter().copied())?);
         self.vertex_parts.push(self.current);
         if let Some(word) = words.get(MOST_NUMBERS) {
@@ -134,8 +136,9 @@ impl Reader {
     }
 
     fn take_face(&mut self, line: Line<'_>, words: &[Word<'_>]) -> Result<(), BadFile> {
-        text::within(self.ends.len(), "faces", line.number)?;
-        text::within(self.corners.len() + words.len(), "corners", line.number)?;
+        text::within(self.ends.len(), text::MOST, "faces", line.number)?;
+        // All but the last corner are those that it has already.
+        text::within((self.corners.len() + words.len()).saturating_sub(1), text::MOST, "corners", line.number)?;
         for &word in words {
             self.corners.push(corner(word, self.vertices.len())?);
             self.corner_starts.push(word.start);
@@ -401,6 +404,10 @@ mod tests {
         assert_eq!(refusal(text), "line 3: '\\\\' is no number");
         assert_eq!(shapes("v 0 0 0\nv 1 0 0\nv 0 1 0 # seam \\\nf 1 2 3\n")[0].faces, [[0, 1, 2]]);
         assert_eq!(refusal("v 0 0 0\nf 1 \\\n"), "line 2: the file ends in a line that goes on");
+        assert_eq!(
+            shapes("v\\\n0 0 \\\n0\nv 1 0 0\nv 0 1 0\nf\\\n1 2 3\n\\\nf 3 \\\n2 1\n")[0].faces,
+            [[0, 1, 2], [2, 1, 0]]
+        );
         let names: Vec<_> = shapes("v 0 0 0\ng wall \\\nf 1\n").into_iter().map(|shape| shape.name).collect();
         assert_eq!(names, [Some("wall \\".into())]);
     }

@@ -79,7 +79,7 @@ fn counts<'a>(rest: &mut Rest<impl Iterator<Item = Line<'a>>>) -> Result<[usize;
 /// Adds a vertex: three numbers, and what may follow them.
 fn take_vertex(drawing: &mut Drawing, piece: &mut Piece, line: Line<'_>) -> Result<(), BadFile> {
     let before = piece.cell.points.len();
-    text::within(before, "vertices", line.number)?;
+    text::within(before, text::MOST, "vertices", line.number)?;
     let mut words = line.words().peekable();
     piece.cell.points.push(text::point(line, &mut words)?);
     piece.vertex_numbers.push(text::numbered(before, 0));
@@ -92,11 +92,11 @@ fn take_vertex(drawing: &mut Drawing, piece: &mut Piece, line: Line<'_>) -> Resu
 /// Adds a face: the count of its corners, their vertices, and what may follow them.
 fn take_face(drawing: &mut Drawing, piece: &mut Piece, line: Line<'_>) -> Result<(), BadFile> {
     let (before, vertices) = (piece.faces.len(), piece.cell.points.len());
-    text::within(before, "faces", line.number)?;
+    text::within(before, text::MOST, "faces", line.number)?;
     let mut words = line.words().peekable();
     let corners = words.next().map_or(Ok(0), Word::count)?;
     for corner in 0..corners {
-        text::within(piece.cell.corners.len(), "corners", line.number)?;
+        text::within(piece.cell.corners.len(), text::MOST, "corners", line.number)?;
         let word = words.next();
         let few = || BadFile::line(line.number, format!("a face of {corners} corners has {corner}"));
         text::push_corner(piece, word.ok_or_else(few)?, vertices)?;

@@ -140,7 +140,7 @@ impl<'a> Header<'a> {
         for line in lines {
             header.lines = line.number;
             if header.take(line)? {
-                header.length = text::next_line(bytes, line.start);
+                header.length = header_end(bytes, line.start);
                 header.check()?;
                 return Ok(header);
             }
@@ -274,6 +274,15 @@ impl<'a> Header<'a> {
             _ => CornerWidth::Word,
         }
     }
+}
+
+/// The byte at which the last line of the header ends. Where the header's lines end with a carriage return alone, a line
+/// feed behind the last is the first byte of the items.
+fn header_end(bytes: &[u8], start: usize) -> usize {
+    let end = text::next_line(bytes, start);
+    let first = text::next_line(bytes, 0);
+    let returns = bytes[..first].ends_with(b"\r");
+    if returns && bytes[..end].ends_with(b"\r\n") { end - 1 } else { end }
 }
 
 impl Element<'_> {
@@ -413,7 +422,7 @@ impl Reader {
     fn take_corner(&mut self, number: Whole) -> Result<(), BadFile> {
         let corner = text::vertex(number.value, self.vertices).map_err(|what| number.bad(what))?;
         if self.piece.cell.corners.len() >= text::MOST {
-            return Err(BadFile { at: number.at, what: text::too_many("corners") });
+            return Err(BadFile { at: number.at, what: text::too_many(text::MOST, "corners") });
         }
         self.piece.push_corner(corner, number.start);
         Ok(())

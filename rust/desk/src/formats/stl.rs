@@ -23,6 +23,9 @@ const POINT: usize = 12;
 /// Where the attributes stand in a facet.
 const ATTRIBUTES: usize = 48;
 
+/// The word that ends a facet. A name with it would be taken for one.
+const END_OF_FACET: &str = "endfacet";
+
 /// The most numbers that a sentence lists.
 const MOST_SHOWN: usize = 10;
 
@@ -30,6 +33,9 @@ const MOST_SHOWN: usize = 10;
 pub fn read(bytes: &[u8]) -> Result<Drawing, BadFile> {
     let facets = claimed_facets(bytes);
     if facets.is_some_and(|facets| bytes.len() as u64 == binary_length(facets)) {
+        if 3 * ((bytes.len() - BEFORE_FACETS) / FACET) > text::MOST {
+            return Err(BadFile::byte(HEADER, text::too_many(text::MOST, "corners")));
+        }
         return Ok(read_binary(bytes));
     }
     read_text(bytes).map_err(|bad| match facets {
@@ -210,6 +216,7 @@ fn read_text(bytes: &[u8]) -> Result<Drawing, BadFile> {
     let mut facets = 0;
     while let Some(word) = words.next() {
         must_be(word, "solid")?;
+        text::within(drawing.pieces.len(), text::MOST_CELLS, "solids", word.line)?;
         let piece = read_solid(&mut drawing, &mut words, facets)?;
         facets += piece.faces.len();
         drawing.pieces.push(piece);
@@ -230,17 +237,19 @@ fn read_solid(drawing: &mut Drawing, words: &mut Words<'_>, before: usize) -> Re
     let mut solid = Solid::default();
     let line = words.line;
     let name = words.rest_of_line();
+    name_ends_with_its_line(name, line)?;
     if !name.is_empty() {
         solid.piece.name = Some(drawing.name(name, line));
     }
     loop {
         let word = words.wanted("'facet' or 'endsolid'")?;
         if is(word, "endsolid") {
-            return end_of_solid(words, word).map(|()| solid.piece);
+            return name_ends_with_its_line(words.rest_of_line(), word.line).map(|()| solid.piece);
         }
         if !is(word, "facet") {
             return Err(word.bad("stands where 'facet' or 'endsolid' should"));
         }
+        text::within(3 * (before + solid.piece.faces.len()), text::MOST, "corners", word.line)?;
         read_facet(words, &mut solid)?;
         solid.piece.end_face(FacePlace {
             number: text::numbered(before + solid.piece.faces.len(), 1),
@@ -250,13 +259,13 @@ fn read_solid(drawing: &mut Drawing, words: &mut Words<'_>, before: usize) -> Re
     }
 }
 
-/// Passes over the name behind `endsolid`. A name ends with its line, so that a solid behind it would be lost.
-fn end_of_solid(words: &mut Words<'_>, end: Word<'_>) -> Result<(), BadFile> {
-    let name = Line { number: end.line, start: 0, bytes: words.rest_of_line() };
-    match name.words().find(|&word| is(word, "endfacet")) {
-        Some(_) => Err(end.bad("is followed by a solid on the same line")),
-        None => Ok(()),
+/// Makes sure that no facet stands behind a name on its line: it would be lost in the name.
+fn name_ends_with_its_line(name: &[u8], line: usize) -> Result<(), BadFile> {
+    let mut words = Line { number: line, start: 0, bytes: name }.words();
+    if words.any(|word| is(word, END_OF_FACET)) {
+        return Err(BadFile::line(line, "a facet stands on the line of a name"));
     }
+    Ok(())
 }
 
 /// A facet behind its first word.
@@ -274,7 +283,7 @@ fn read_facet(words: &mut Words<'_>, solid: &mut Solid) -> Result<(), BadFile> {
         solid.push_corner(point, start);
     }
     words.keyword("endloop")?;
-    words.keyword("endfacet")
+    words.keyword(END_OF_FACET)
 }
 
 /// The bytes of a facet's normal, in parts, and what stands there when its signs are changed. A 0
@@ -344,8 +353,8 @@ fn text_file(pieces: &[Piece], told: &mut Vec<String>) -> Result<Vec<u8>, String
 fn solid_text(piece: &Piece, triangles: &[[u32; 3]]) -> Result<String, String> {
     let name = piece.name.as_ref();
     let name = name.map_or(String::new(), |name| format!(" {name}"));
-    if name.contains('\n') {
-        return Err("the cell's name has more than one line".to_string());
+    if name.contains('\n') || name_ends_with_its_line(name.as_bytes(), 1).is_err() {
+        return Err("the cell's name cannot be written in a text STL file".to_string());
     }
     let mut out = format!("solid{name}\n");
     for triangle in triangles {
@@ -585,8 +594,9 @@ mod tests {
     #[test]
     fn a_solid_on_the_line_of_another_is_not_lost() {
         let one = facet("0 0 0 1 0 0 0 1 0").replace('\n', " ");
-        let told = "line 2: 'endsolid' is followed by a solid on the same line";
+        let told = "line 2: a facet stands on the line of a name";
         assert_eq!(refusal(format!("solid a\n{one}endsolid a solid b {one}endsolid b\n")), told);
+        assert_eq!(refusal(format!("\nsolid a {one}\n{one}endsolid a\n")), told);
     }
 
     #[test]
@@ -849,8 +859,10 @@ mod tests {
         square.cell.points[2][1] = f64::NAN;
         let what = told(&[square], Encoding::Text);
         assert!(what.starts_with("vertex 12 has a coordinate that is no number"), "{what}");
-        let lines = named("a\nb", piece(&SQUARE, &[]));
-        assert_eq!(told(&[lines], Encoding::Text), "the cell's name has more than one line");
+        for name in ["a\nb", "an EndFacet"] {
+            let what = told(&[named(name, piece(&SQUARE, &[]))], Encoding::Text);
+            assert_eq!(what, "the cell's name cannot be written in a text STL file");
+        }
         let mut asked = piece(&SQUARE[..3], &[&[0, 1, 2]]);
         asked.queries = vec![[0.0; 3]];
         assert_eq!(text_of(&[asked]).1, ["query points are not carried over: 1"]);

@@ -124,18 +124,21 @@ pub fn point<'a>(line: Line<'a>, words: &mut impl Iterator<Item = Word<'a>>) -> 
     Ok(point)
 }
 
-/// The most vertices, faces, corners and names of a file: 2^24. A byte of a text can stand for a face, and a face takes
-/// some eighty bytes of memory, so that memory would go far beyond the file without it.
+/// The most vertices, faces and corners of a file: 2^24. Two bytes of a text can stand for a face, and a face takes some
+/// eighty bytes of memory, so that memory would go far beyond the file without it.
 pub const MOST: usize = 1 << 24;
 
+/// The most cells of a file: 2^20. A cell takes some hundreds of bytes of memory, whatever it holds.
+pub const MOST_CELLS: usize = 1 << 20;
+
 /// Makes sure that a file that has so many already may have one more.
-pub fn within(count: usize, what: &str, line: usize) -> Result<(), BadFile> {
-    if count < MOST { Ok(()) } else { Err(BadFile::line(line, too_many(what))) }
+pub fn within(count: usize, most: usize, what: &str, line: usize) -> Result<(), BadFile> {
+    if count < most { Ok(()) } else { Err(BadFile::line(line, too_many(most, what))) }
 }
 
 /// What is told of a file that has more than it may.
-pub fn too_many(what: &str) -> String {
-    format!("the file has more than {MOST} {what}")
+pub fn too_many(most: usize, what: &str) -> String {
+    format!("the file has more than {most} {what}")
 }
 
 /// Makes sure that the words behind what is read are numbers, as colours and weights are.
@@ -231,6 +234,12 @@ mod tests {
         let line = Line { number: 3, start: 10, bytes: b"  f 1\t22 # x" };
         let found: Vec<_> = line.before(b'#').words().map(|w| (w.start, w.bytes)).collect();
         assert_eq!(found, [(12, &b"f"[..]), (14, b"1"), (16, b"22")]);
+    }
+
+    #[test]
+    fn a_file_may_have_so_many_and_no_more() {
+        assert_eq!(within(6, 7, "faces", 3), Ok(()));
+        assert_eq!(within(7, 7, "faces", 3).unwrap_err().to_string(), "line 3: the file has more than 7 faces");
     }
 
     #[test]

@@ -17,18 +17,7 @@ mod examples;
 #[cfg(test)]
 mod tests;
 
-use crate::findings::Findings;
-use crate::model::Piece;
-
-/// A cell to be drawn: how it is called, what it is, what was found about it.
-pub struct Drawn<'a> {
-    /// How it is called.
-    pub title: String,
-    /// The cell, and the numbers that its parts have in the file.
-    pub piece: &'a Piece,
-    /// What was found about it.
-    pub findings: &'a Findings,
-}
+use crate::words::Report;
 
 /// The survey's table.
 pub struct Table {
@@ -47,11 +36,11 @@ pub struct TableRow {
 }
 
 /// All cells as one SVG picture.
-pub fn svg(cells: &[Drawn<'_>]) -> String {
+pub fn svg(cells: &[Report<'_>]) -> String {
     svg::picture(cells, "cells")
 }
 
 /// The page: the survey's table, the pictures, and sliders that turn each cell.
-pub fn page(title: &str, cells: &[Drawn<'_>], table: &Table) -> String {
+pub fn page(title: &str, cells: &[Report<'_>], table: &Table) -> String {
     page::page(title, cells, table)
 }

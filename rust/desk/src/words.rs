@@ -75,11 +75,15 @@ pub fn title(file: &str, piece: &Piece) -> String {
 }
 
 impl Report<'_> {
+    /// The name of the cell with that of its file.
+    pub fn title(&self) -> String {
+        title(self.file, self.piece)
+    }
+
     /// The columns of the cell's row.
     pub fn columns(&self, wish: Wish) -> Vec<String> {
         let cell = &self.piece.cell;
-        let mut columns =
-            vec![title(self.file, self.piece), cell.points.len().to_string(), cell.ends.len().to_string()];
+        let mut columns = vec![self.title(), cell.points.len().to_string(), cell.ends.len().to_string()];
         match self.findings {
             Err(refusal) => columns.push(format!("refused {}", refusal.number())),
             Ok(found) => {
@@ -97,7 +101,7 @@ impl Report<'_> {
     /// What is wrong with the cell, a sentence each.
     pub fn faults(&self, wish: Wish) -> Vec<String> {
         match self.findings {
-            Err(refusal) => vec![format!("refused {}: {}", refusal.number(), self.why(*refusal))],
+            Err(refusal) => vec![self.refused(*refusal)],
             Ok(found) => {
                 let mut faults = Vec::from_iter(self.against(found, wish));
                 faults.extend(self.torn(found, wish));
@@ -153,6 +157,11 @@ impl Report<'_> {
         let is = if found.short.len() == 1 { "is" } else { "are" };
         (!found.short.is_empty())
             .then(|| format!("{} {is} cut short, and the rest is missing in the volume", plural("face", &list)))
+    }
+
+    /// That the cell is refused, and why.
+    pub fn refused(&self, refusal: Refusal) -> String {
+        format!("refused {}: {}", refusal.number(), self.why(refusal))
     }
 
     /// Why the cell is refused, in words of its own where the library's number has several reasons.

@@ -44,6 +44,13 @@ impl Desk {
         (status.code().unwrap(), text(stdout), text(stderr))
     }
 
+    /// The command in the folder, its output not yet taken: assert_cmd would take it itself.
+    fn plain(&self, words: &str) -> std::process::Command {
+        let mut command = std::process::Command::new(assert_cmd::cargo::cargo_bin("wegrusamt"));
+        command.current_dir(self.0.path()).args(words.split(' '));
+        command
+    }
+
     /// Calls the command, which must end so and complain so, and answers its output.
     fn said(&self, words: &str, status: i32, complaints: &str) -> String {
         let (ended, out, err) = self.call(words);
@@ -379,12 +386,14 @@ fn a_picture_holds_no_more_cells_of_one_name() {
     assert_eq!((status, out.lines().last().unwrap()), (1, "many.stl,solid 18,0,0,,,,,,,,,,,1,it has no vertex"));
 }
 
+/// A file that takes no byte.
+fn full() -> fs::File {
+    fs::OpenOptions::new().write(true).open("/dev/full").unwrap()
+}
+
 #[test]
 fn a_standard_error_that_cannot_be_written_changes_no_status() {
-    let desk = Desk::new();
-    let full = fs::OpenOptions::new().write(true).open("/dev/full").unwrap();
-    let mut plain = std::process::Command::new(assert_cmd::cargo::cargo_bin("wegrusamt"));
-    let done = plain.current_dir(desk.0.path()).args(["survey", "none.obj"]).stderr(full).output().unwrap();
+    let done = Desk::new().plain("survey none.obj").stderr(full()).output().unwrap();
     assert_eq!(done.status.code(), Some(2));
 }
 
@@ -392,10 +401,7 @@ fn a_standard_error_that_cannot_be_written_changes_no_status() {
 fn a_full_disk_is_told() {
     let desk = Desk::new();
     desk.put("cube.cell", example("cube.cell"));
-    let full = fs::OpenOptions::new().write(true).open("/dev/full").unwrap();
-    // assert_cmd takes the output itself, so the plain command is asked here.
-    let mut plain = std::process::Command::new(assert_cmd::cargo::cargo_bin("wegrusamt"));
-    let done = plain.current_dir(desk.0.path()).args(["survey", "cube.cell"]).stdout(full).output().unwrap();
+    let done = desk.plain("survey cube.cell").stdout(full()).output().unwrap();
     assert_eq!(done.status.code(), Some(2));
     let told = String::from_utf8(done.stderr).unwrap();
     assert_eq!(told, "wegrusamt: standard output: No space left on device (os error 28)\n");

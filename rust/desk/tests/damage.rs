@@ -11,9 +11,9 @@ use desk::findings::examine;
 use desk::formats::{Encoding, Format};
 use desk::json;
 use desk::model::{Drawing, Piece};
-use desk::picture::{Drawn, svg};
+use desk::picture::svg;
 use desk::turning::{turned_file, turning};
-use desk::words::{Report, Wish, title};
+use desk::words::{Report, Wish};
 
 /// One file in so many that can be read goes through everything else, too.
 const THROUGH_ALL: u64 = 64;
@@ -91,7 +91,7 @@ fn through_all(bytes: &[u8], format: Format, drawing: &Drawing) {
         let report = Report { file: "a", piece, findings: &findings };
         assert!(!json::line(&report, wish).is_empty());
         assert!(!report.faults(wish).iter().chain(&report.csv(wish)).any(|text| text.contains(char::is_control)));
-        let drawn = svg(&[Drawn { title: title("a", piece), piece, findings: &findings }]);
+        let drawn = svg(&[report]);
         // Words may speak of NaN; a place or a length may not be one.
         let mut tags = drawn.split('<').map(|part| part.split('>').next().unwrap_or_default());
         assert!(!tags.any(|tag| tag.contains("NaN") || tag.contains("inf")), "{drawn}");
@@ -112,14 +112,14 @@ fn through_all(bytes: &[u8], format: Format, drawing: &Drawing) {
 fn try_damaged(format: Format, seeds: &[Vec<u8>], count: u64) -> u64 {
     let mut dice = Dice(format as u64);
     let mut read = 0;
-    for turn in 0..count {
+    for _ in 0..count {
         let mut bytes = seeds[dice.below(seeds.len())].clone();
         for _ in 0..=dice.below(4) {
             damage(&mut bytes, &mut dice);
         }
         if let Ok(drawing) = format.read(&bytes) {
             read += 1;
-            if turn % THROUGH_ALL == 0 {
+            if read % THROUGH_ALL == 0 {
                 through_all(&bytes, format, &drawing);
             }
         }

@@ -6,8 +6,8 @@ use super::{PictureWish, Status, about, loaded};
 use crate::files::write_whole;
 use crate::findings::{Findings, examine};
 use crate::model::Piece;
-use crate::picture::{Drawn, Table, TableRow, page, svg};
-use crate::words::{Report, Wish, headings, title};
+use crate::picture::{Table, TableRow, page, svg};
+use crate::words::{Report, Wish, headings};
 
 /// The most cells that one picture holds.
 const MOST_CELLS: usize = 16;
@@ -26,13 +26,7 @@ pub(super) fn run(wish: &PictureWish) -> Result<Status, String> {
     let name = file_name(&wish.file);
     let reports = pieces.iter().zip(&findings).map(|(&piece, findings)| Report { file: &name, piece, findings });
     let reports: Vec<Report<'_>> = reports.collect();
-    let drawn = reports.iter().map(|report| Drawn {
-        title: title(report.file, report.piece),
-        piece: report.piece,
-        findings: report.findings,
-    });
-    let drawn: Vec<Drawn<'_>> = drawn.collect();
-    let text = if as_page { page(&name, &drawn, &table(&reports)) } else { svg(&drawn) };
+    let text = if as_page { page(&name, &reports, &table(&reports)) } else { svg(&reports) };
     write_whole(&wish.out, text.as_bytes(), wish.force).map_err(|bad| about(&wish.out, bad))?;
     Ok(Status::Well)
 }

@@ -2,9 +2,9 @@
 
 use wegrusamt::{CellBuf, Refusal};
 
-use super::Drawn;
 use crate::findings::{Findings, Measured, ShortFace, Side};
 use crate::model::{FacePlace, Piece};
+use crate::words::Report;
 
 /// A cell and what was found about it.
 pub struct Example {
@@ -18,8 +18,8 @@ pub struct Example {
 
 impl Example {
     /// The example as it is handed to the picture.
-    pub fn drawn(&self) -> Drawn<'_> {
-        Drawn { title: self.title.to_string(), piece: &self.piece, findings: &self.findings }
+    pub fn drawn(&self) -> Report<'_> {
+        Report { file: self.title, piece: &self.piece, findings: &self.findings }
     }
 }
 

@@ -6,13 +6,14 @@ use super::scene::Scene;
 use super::svg::picture;
 use super::text::{cut, escaped};
 use super::views::Point;
-use super::{Drawn, Table, TableRow};
+use super::{Table, TableRow};
+use crate::words::Report;
 
 const STYLE: &str = include_str!("page.css");
 const SCRIPT: &str = include_str!("page.js");
 
 /// The page: the survey's table, the pictures, and sliders that turn each cell.
-pub fn page(title: &str, cells: &[Drawn<'_>], table: &Table) -> String {
+pub fn page(title: &str, cells: &[Report<'_>], table: &Table) -> String {
     // A row leads to its cell's picture where the two lists are of the same cells.
     let linked = table.rows.len() == cells.len();
     let parts: String = cells.iter().enumerate().map(|(k, cell)| part(k, cell)).collect();
@@ -60,8 +61,8 @@ fn survey_row(row: &TableRow, columns: usize, cell: Option<usize>) -> String {
 
 /// A cell's picture, and the place where the script draws the turned cell. That stays hidden where
 /// no script runs.
-fn part(k: usize, cell: &Drawn<'_>) -> String {
-    let name = escaped(&cut(&cell.title, 1.0, 60.0));
+fn part(k: usize, cell: &Report<'_>) -> String {
+    let name = escaped(&cut(&cell.title(), 1.0, 60.0));
     let drawing = picture(std::slice::from_ref(cell), &format!("c{k}"));
     format!(
         "<section id=\"cell-{k}\" aria-label=\"{name}\">\n<h2>{name}</h2>\n\

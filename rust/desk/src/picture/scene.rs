@@ -2,12 +2,11 @@
 
 use std::array::from_fn;
 
-use super::Drawn;
 use super::text::measure;
 use super::views::Point;
 use crate::findings::{Measured, ShortFace, Side};
 use crate::model::Piece;
-use crate::words::counted;
+use crate::words::{Report, counted};
 
 /// How many faces a drawn cell may have. The library's own limit is far below; this one is for
 /// cells that it refuses.
@@ -37,7 +36,7 @@ pub struct Scene<'a> {
 
 impl<'a> Scene<'a> {
     /// The cell to be drawn, or nothing where no drawing of it could be true.
-    pub fn of(drawn: &Drawn<'a>) -> Option<Scene<'a>> {
+    pub fn of(drawn: &Report<'a>) -> Option<Scene<'a>> {
         let piece = drawn.piece;
         if !can_be_drawn(piece) {
             return None;
@@ -133,7 +132,7 @@ fn lone_vertices(count: usize, faces: &[&[u32]]) -> Vec<usize> {
 }
 
 /// What a cell measures, in a line.
-pub fn measures(drawn: &Drawn<'_>) -> String {
+pub fn measures(drawn: &Report<'_>) -> String {
     let cell = &drawn.piece.cell;
     let mut parts = vec![counted(cell.points.len(), "vertex", "vertices"), counted(cell.ends.len(), "face", "faces")];
     if let Ok(found) = drawn.findings {
@@ -145,10 +144,10 @@ pub fn measures(drawn: &Drawn<'_>) -> String {
 }
 
 /// What is wrong with a cell, in a line; empty where nothing is.
-pub fn faults(drawn: &Drawn<'_>) -> String {
+pub fn faults(drawn: &Report<'_>) -> String {
     let found = match drawn.findings {
         Ok(found) => found,
-        Err(refusal) => return refusal.to_string(),
+        Err(refusal) => return drawn.refused(*refusal),
     };
     let mut parts = Vec::new();
     for (count, one, more) in [

@@ -1,11 +1,11 @@
 //! A picture of cells: for each a title and a row of four views, and a legend below all.
 
-use super::Drawn;
 use super::drawing::{AGAINST, DARK, DARK_RED, Plan, SHORT};
 use super::legend::legend;
 use super::scene::{Scene, faults, measures};
 use super::text::{cut, escaped, measure, px};
 use super::views::{Flat, Rect, VIEWS};
+use crate::words::Report;
 
 /// The width of a picture.
 const WIDTH: f64 = 1200.0;
@@ -28,7 +28,7 @@ const BAR: f64 = 150.0;
 
 /// All cells as one picture. Its ids begin with the prefix, so that several pictures can stand on
 /// one page.
-pub fn picture(cells: &[Drawn<'_>], prefix: &str) -> String {
+pub fn picture(cells: &[Report<'_>], prefix: &str) -> String {
     let scenes: Vec<Option<Scene<'_>>> = cells.iter().map(Scene::of).collect();
     let (mut body, mut top) = (String::new(), MARGIN);
     for (k, (cell, scene)) in cells.iter().zip(&scenes).enumerate() {
@@ -51,8 +51,8 @@ pub fn picture(cells: &[Drawn<'_>], prefix: &str) -> String {
 }
 
 /// What the picture shows, for readers who do not see it.
-fn words(cells: &[Drawn<'_>], prefix: &str) -> String {
-    let names: Vec<String> = cells.iter().map(|cell| cut(&cell.title, 1.0, 60.0)).collect();
+fn words(cells: &[Report<'_>], prefix: &str) -> String {
+    let names: Vec<String> = cells.iter().map(|cell| cut(&cell.title(), 1.0, 60.0)).collect();
     let told: Vec<String> = cells.iter().map(told).collect();
     format!(
         "<title id=\"{prefix}-title\">{}</title>\n<desc id=\"{prefix}-desc\">Four views of each cell. {}</desc>\n",
@@ -62,11 +62,11 @@ fn words(cells: &[Drawn<'_>], prefix: &str) -> String {
 }
 
 /// A cell in a sentence or two.
-fn told(cell: &Drawn<'_>) -> String {
+fn told(cell: &Report<'_>) -> String {
     let faults = faults(cell);
     let faults = if faults.is_empty() { "nothing is wrong".to_string() } else { faults };
     let marks = Scene::of(cell).map(|scene| numbers(&scene)).unwrap_or_default();
-    format!("{}: {}; {faults}.{marks}", cut(&cell.title, 1.0, 60.0), measures(cell))
+    format!("{}: {}; {faults}.{marks}", cut(&cell.title(), 1.0, 60.0), measures(cell))
 }
 
 /// The numbers of what is marked.
@@ -113,7 +113,7 @@ fn patterns(scenes: &[&Scene<'_>], prefix: &str) -> String {
 
 /// A cell's part of the picture.
 struct Row<'a> {
-    cell: &'a Drawn<'a>,
+    cell: &'a Report<'a>,
     top: f64,
     id: String,
     prefix: &'a str,
@@ -131,7 +131,7 @@ impl Row<'_> {
 
     /// The name of the cell, its measures, and what is wrong with it.
     fn title(&self) -> String {
-        let name = cut(&self.cell.title, 17.0, WIDTH - 2.0 * MARGIN);
+        let name = cut(&self.cell.title(), 17.0, WIDTH - 2.0 * MARGIN);
         let faults = faults(self.cell);
         let faults = if faults.is_empty() { faults } else { format!(" \u{2013} {faults}") };
         format!(
@@ -164,7 +164,7 @@ impl Row<'_> {
     fn refused(&self) -> (String, f64) {
         let (top, height) = (self.top + TITLE, 60.0);
         let words = match self.cell.findings {
-            Err(refusal) => format!("not drawn: {refusal}"),
+            Err(refusal) => format!("not drawn: {}", self.cell.refused(*refusal)),
             Ok(_) => "not drawn: its lists do not hold together".to_string(),
         };
         let drawn = format!(

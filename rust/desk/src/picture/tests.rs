@@ -5,25 +5,26 @@ use proptest::prelude::*;
 use wegrusamt::{CellBuf, Refusal};
 
 use super::examples::{self, Example};
-use super::{Drawn, Table, TableRow, page, svg};
+use super::{Table, TableRow, page, svg};
 use crate::findings::{Findings, Measured, ShortFace, Side};
 use crate::model::Piece;
+use crate::words::Report;
 
 fn all_examples() -> Vec<Example> {
     use examples::*;
     vec![cube(), backward(), open(), far(), infinite(), too_large()]
 }
 
-fn table_of(cells: &[Drawn<'_>]) -> Table {
-    let row = |cell: &Drawn<'_>| TableRow {
-        columns: vec![cell.title.clone(), "8".to_string()],
-        faults: vec![format!("{} has <faults>", cell.title)],
+fn table_of(cells: &[Report<'_>]) -> Table {
+    let row = |cell: &Report<'_>| TableRow {
+        columns: vec![cell.title(), "8".to_string()],
+        faults: vec![format!("{} has <faults>", cell.title())],
     };
     let heading = vec!["cell".to_string(), "vertices".to_string()];
     Table { heading, rows: cells.iter().map(row).collect() }
 }
 
-fn page_of(cells: &[Drawn<'_>]) -> String {
+fn page_of(cells: &[Report<'_>]) -> String {
     page("plan", cells, &table_of(cells))
 }
 
@@ -192,10 +193,12 @@ fn the_title_says_what_was_measured() {
 fn a_refused_cell_is_drawn_or_told() {
     let xml = svg(&[examples::infinite().drawn()]);
     assert!(!xml.contains("class=\"view\""));
-    assert!(xml.contains("not drawn: refusal 2: a number is NaN, infinite or above 2^40 in magnitude"));
+    let why = "has a coordinate that is NaN, infinite or above 2^40 in magnitude";
+    assert!(xml.contains(&format!("not drawn: refused 2: vertex 4 (0 inf 0) {why}")), "{xml}");
     let xml = svg(&[examples::too_large().drawn()]);
     assert_eq!(xml.matches("class=\"view\"").count(), 4);
-    assert!(xml.contains("refusal 1: "));
+    let why = format!("refused 1: it has {} vertices, and 256 are the most", 80 * 8);
+    assert!(xml.contains(&why), "{xml}");
     let mut huge = examples::too_large();
     for _ in 0..2_000 {
         huge.piece.cell.push_face(&[0, 1, 2]);
@@ -223,7 +226,7 @@ fn a_single_point_stands_in_the_middle_of_each_view() {
     let mut cell = CellBuf::new();
     cell.points.push([3.0, 4.0, 5.0]);
     let (piece, findings) = (examples::piece(cell), Ok(examples::sound(0.0)));
-    let cell = Drawn { title: "point".to_string(), piece: &piece, findings: &findings };
+    let cell = Report { file: "point", piece: &piece, findings: &findings };
     let xml = svg(&[cell]);
     let places: Vec<&str> = xml.split("class=\"lone\" cx=\"").skip(1).collect();
     let places: Vec<&str> = places.iter().filter_map(|place| place.split('"').next()).collect();
@@ -235,7 +238,7 @@ fn a_single_point_stands_in_the_middle_of_each_view() {
 #[test]
 fn the_pictures_are_well_formed_and_their_ids_differ() {
     let examples = all_examples();
-    let cells: Vec<Drawn<'_>> = examples.iter().map(Example::drawn).collect();
+    let cells: Vec<Report<'_>> = examples.iter().map(Example::drawn).collect();
     assert_well_formed(&svg(&cells));
     assert_well_formed(&svg(&[]));
     for text in [svg(&cells), page_of(&cells)] {
@@ -252,7 +255,7 @@ fn the_pictures_are_well_formed_and_their_ids_differ() {
 fn names_are_escaped() {
     let cube = examples::cube();
     let name = "</title><script>\"a\" & 'b'\u{7}";
-    let cell = || Drawn { title: name.to_string(), piece: &cube.piece, findings: &cube.findings };
+    let cell = || Report { file: name, piece: &cube.piece, findings: &cube.findings };
     let shown = "&lt;/title&gt;&lt;script&gt;&quot;a&quot; &amp; &#39;b&#39;\u{FFFD}";
     let xml = svg(&[cell()]);
     assert_well_formed(&xml);
@@ -270,7 +273,7 @@ fn names_are_escaped() {
 fn a_long_name_is_cut() {
     let cube = examples::cube();
     let title = "w".repeat(100_000);
-    let cell = Drawn { title, piece: &cube.piece, findings: &cube.findings };
+    let cell = Report { file: &title, piece: &cube.piece, findings: &cube.findings };
     assert!(svg(std::slice::from_ref(&cell)).len() < 20_000);
     let table = Table { heading: Vec::new(), rows: Vec::new() };
     assert!(page("plan", &[cell], &table).len() < 40_000);
@@ -279,7 +282,7 @@ fn a_long_name_is_cut() {
 #[test]
 fn the_page_asks_nothing_of_the_network() {
     let examples = all_examples();
-    let cells: Vec<Drawn<'_>> = examples.iter().map(Example::drawn).collect();
+    let cells: Vec<Report<'_>> = examples.iter().map(Example::drawn).collect();
     let html = page_of(&cells);
     let own = html.replace("xmlns=\"http://www.w3.org/2000/svg\"", "");
     for asking in ["http:", "https:", "//", "@import", "<link", "src=", "url(\"", "fetch("] {
@@ -293,7 +296,7 @@ fn the_page_asks_nothing_of_the_network() {
 #[test]
 fn the_page_has_a_labelled_slider_for_each_cell() {
     let examples = all_examples();
-    let cells: Vec<Drawn<'_>> = examples.iter().map(Example::drawn).collect();
+    let cells: Vec<Report<'_>> = examples.iter().map(Example::drawn).collect();
     let html = page_of(&cells);
     for k in 0..cells.len() {
         for name in ["turn", "tilt"] {
@@ -363,7 +366,7 @@ fn awful_findings() -> impl Strategy<Value = Findings> {
 proptest! {
     #[test]
     fn awful_cells_are_drawn_or_told(piece in awful_piece(), findings in awful_findings()) {
-        let cell = || Drawn { title: "cell".to_string(), piece: &piece, findings: &findings };
+        let cell = || Report { file: "cell", piece: &piece, findings: &findings };
         let xml = svg(&[cell()]);
         assert_well_formed(&xml);
         let html = page_of(&[cell()]);

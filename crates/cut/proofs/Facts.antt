@@ -16,9 +16,8 @@ use Rattle.places.specs.declared.Found.the-variants.{At, Nothing}
 use Rattle.places.proofs.Lists.{length-without, each-nil, each-cons, each-without}
 use Rattle.places.proofs.Rings.{each-ear}
 use Rattle.exact.specs.Sides.{allSides}
-use Rattle.exact.specs.Space.{sum}
 use Rattle.exact.proofs.Poly.{var, con, _⊕_, ⊖, ring}
-use Rattle.exact.proofs.Balance.{Anti, sum-append, half}
+use Rattle.exact.proofs.Balance.{sum, Anti, sum-append, half}
 use Rattle.exact.proofs.Ears.{cut-one}
 use Rattle.exact.proofs.Alike.{Alike, sum-faces}
 use Rattle.exact.proofs.Volume.{Three}

@@ -6,38 +6,27 @@ use Prim.Native.Nat.{ℕ, _+_, _<_, _≤_}
 use native.Mathlib.Omega.{arith}
 use lib.ListN.{length}
 use lib.Ieee.{Float}
-use lib.IntN.{ℤ, pos, _+ℤ_, +ℤ-idr}
+use lib.IntN.{ℤ, _+ℤ_, +ℤ-idr}
 use Rattle.places.specs.Lists.{Each}
 use Rattle.places.specs.Ring.{sides}
 use Rattle.places.specs.declared.Found.the-variants.{Nothing}
 use Rattle.places.proofs.Lists.{each-nil, each-append, each-head, each-tail}
 use Rattle.exact.specs.Sides.{allSides}
-use Rattle.exact.specs.Space.{V3, plus, sum, area}
 use Rattle.exact.proofs.Poly.{var, _⊕_, ring}
-use Rattle.exact.proofs.Balance.{Anti, sum-append}
-use Rattle.exact.proofs.Alike.{Alike, sum-faces, alike-closed, alike-runs, alike-area, area-append}
+use Rattle.exact.proofs.Balance.{sum, Anti, sum-append}
+use Rattle.exact.proofs.Alike.{Alike, sum-faces, alike-closed}
 use Rattle.exact.proofs.Volume.{Three, same-about}
 use Rattle.flat.specs.Points.{Point, verticesOf}
 use Rattle.cut.specs.Cut.{cutOf}
-use Rattle.cut.proofs.Facts.{Ends, few, full, short, choice, cut-ends, cut-threes, cut-keeps, cut-alike, stuck-turns}
+use Rattle.cut.proofs.Facts.{Ends, few, full, short, choice, cut-ends, cut-threes, cut-keeps, stuck-turns}
 use Rattle.cell.specs.Faces.{facesOf}
 use Rattle.volume.specs.Triangles.{trianglesOf, leftsOf}
-use Rattle.demand3.specs.Demand3.{placeOf, Stuck, Full, Gives, Premises, StaysBalanced, SameSum, Sums, Demand3, MadeUp}
-use Rattle.demand3.specs.Demand3.{ClosedWithRings}
+use Rattle.demand3.specs.Demand3.{placeOf, Stuck, Full, Gives, Premises, StaysBalanced, SameSum, Sums, Demand3, ClosedWithRings}
 
 -- ---- of one face
 none-of : (ts : List (List ℕ)) → length ts ≤ 0 → ts ≡ []
 none-of [] h = refl
 none-of (t ∷ ts) h = absurd (omega arith)
-
-plus-none : (a : V3) → plus a (record { x = pos 0; y = pos 0; z = pos 0 }) ≡ a
-unfolding plus
-plus-none a = λ i. record { x = +ℤ-idr (a .x) i; y = +ℤ-idr (a .y) i; z = +ℤ-idr (a .z) i }
-
--- a ring of no corners has no area
-area-none : (at : ℕ → V3) → area at ([] ∷ []) ≡ record { x = pos 0; y = pos 0; z = pos 0 }
-unfolding area
-area-none at = refl
 
 module _ (vs : List Point) (face : List ℕ) where
   abbrev Ending : Type 0
@@ -65,34 +54,13 @@ module _ (vs : List Point) (face : List ℕ) where
   gives = record { full = end-full (cut-ends vs face); fewer = end-fewer (cut-ends vs face); nothing = end-nothing (cut-ends vs face) }
 
   -- where it gives its full n − 2 nothing remains
-  full-left : Full vs face → cutOf vs face .left ≡ []
+  pub full-left : Full vs face → cutOf vs face .left ≡ []
   full-left f = go (cut-ends vs face)
     where
       go : Ending → cutOf vs face .left ≡ []
       go (few l a b) = b
       go (full a b) = a
       go (short a b d) = absurd (omega (arith, f (omega arith)))
-
-  end-corners : Ending → Stuck vs face (cutOf vs face .left)
-      → length (cutOf vs face .triangles) + length (cutOf vs face .left) ≡ length face
-  end-corners (few l a b) s = absurd (omega (arith, ap length b, s .four))
-  end-corners (full a b) s = absurd (omega (arith, ap length a, s .four))
-  end-corners (short a b d) s = d
-
-  areas : plus (area (placeOf vs) (cutOf vs face .triangles)) (area (placeOf vs) (cutOf vs face .left ∷ [])) ≡ area (placeOf vs) (face ∷ [])
-  areas =
-      sym (area-append (placeOf vs) (cutOf vs face .triangles) (cutOf vs face .left ∷ [])) ∙ alike-area _ _ (cut-alike vs face) (placeOf vs)
-
-  full-areas : Full vs face → area (placeOf vs) (cutOf vs face .triangles) ≡ area (placeOf vs) (face ∷ [])
-  full-areas f = sym (plus-none (area (placeOf vs) (cutOf vs face .triangles))) ∙ (rw (full-left f, area-none (placeOf vs)) at areas)
-
-  pub made-up : MadeUp vs face
-  made-up = record {
-    corners = end-corners (cut-ends vs face);
-    areas = areas;
-    full = full-areas;
-    sides = alike-runs _ _ (cut-alike vs face);
-  }
 
 -- ---- of a cell
 mix : (a b c d : ℤ) → (a +ℤ b) +ℤ (c +ℤ d) ≡ (a +ℤ c) +ℤ (b +ℤ d)
@@ -123,7 +91,7 @@ module _ (vs : List Point) where
   no-lefts [] e = refl
   no-lefts (f ∷ fs) e = rw (full-left vs f (each-head e)) (no-lefts fs (each-tail e))
 
-  full-alike : (fs : List (List ℕ)) → Each [] (Full vs) fs → Alike (trianglesOf vs fs) fs
+  pub full-alike : (fs : List (List ℕ)) → Each [] (Full vs) fs → Alike (trianglesOf vs fs) fs
   full-alike fs e =
       record { sums = λ w anti. sym (+ℤ-idr (sum w (allSides (trianglesOf vs fs)))) ∙ (rw (no-lefts fs e) at (cell-keeps w anti fs)) }
 

@@ -1,4 +1,5 @@
 pub mod Demand3
+pub mod Area
 pub mod Reported
 pub mod Exact
 pub mod Cube

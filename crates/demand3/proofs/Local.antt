@@ -268,7 +268,7 @@ module _ (coords : List Float) (ok : localRefusal coords ≡ 0) where
       Below : List (List ℕ) → ℕ → Type 0
       Below lists n = Each [] (λ l. Each 0 (λ v. v < n) l) lists
 
-  same-areas : (ring : List ℕ) → Inside vs ring → area (placeOf (moved coords)) (ring ∷ []) ≡ area (placeOf vs) (ring ∷ [])
+  same-areas : (ring : List ℕ) → Inside vs ring → area (placeOf (moved coords)) ring ≡ area (placeOf vs) ring
   same-areas ring i =
       moved-area (placeOf vs) (placeOf (moved coords)) (vector coords) ring
       (record { holds = λ k h. moves (getD ring k 0) (i .holds k h) })

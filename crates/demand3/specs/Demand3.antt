@@ -3,7 +3,7 @@
 use mathlib.Core.Path.{_≡_}
 use mathlib.Core.Logic.{_↔_}
 use mathlib.Core.Bool.{Bool, true, false}
-use mathlib.Core.List.{List, [], _∷_, _++_}
+use mathlib.Core.List.{List, [], _++_}
 use Prim.Native.Nat.{ℕ, _+_, _*_, _^_, _<_, _≤_}
 use lib.Dec.{T}
 use lib.ListN.{length}
@@ -12,8 +12,8 @@ use lib.Ieee.{Float, binary64, fits}
 use lib.Ieee.Exact.{HasValue}
 use Rattle.places.specs.Lists.{Each}
 use Rattle.exact.specs.Scaled.{signed, exactOf}
-use Rattle.exact.specs.Sides.{runs, Closed, closedOf}
-use Rattle.exact.specs.Space.{V3, plus, area, triples}
+use Rattle.exact.specs.Sides.{Closed, closedOf}
+use Rattle.exact.specs.Space.{V3, triples}
 use Rattle.flat.specs.Points.{Point, at, verticesOf, vertexOf}
 use Rattle.flat.specs.Flat.{pointsOf}
 use Rattle.next_corner.specs.NextCorner.{turnsAt}
@@ -108,17 +108,6 @@ Exact =
     (x : Float) (s : Bool) (a c : ℕ) → T (fits binary64 x) → HasValue x s a c → exactOf x *ℤ pos c ≡ signed s (a * 2 ^ 1074)
 
 -- ---- what later requests use
--- the ring that remains makes up the difference between a face and its triangles
-pub record MadeUp (vs : List Point) (face : List ℕ) : Type 0 where
-  -- in corners: a triangle for each that does not remain
-  pub corners : Stuck vs face (rest vs face) → length (pieces vs face) + length (rest vs face) ≡ length face
-  -- in exact doubled area vectors; where the face gives its full n − 2 nothing remains
-  pub areas : plus (area (placeOf vs) (pieces vs face)) (area (placeOf vs) (rest vs face ∷ [])) ≡ area (placeOf vs) (face ∷ [])
-  pub full : Full vs face → area (placeOf vs) (pieces vs face) ≡ area (placeOf vs) (face ∷ [])
-  -- in how many sides run from i to j, those from j to i taken off
-  pub sides : (i j : ℕ) → runs i j (pieces vs face ++ rest vs face ∷ []) + runs j i (face ∷ [])
-      ≡ runs j i (pieces vs face ++ rest vs face ∷ []) + runs i j (face ∷ [])
-
 -- the triangles of any closed cell are closed with the rings that remain, fully cut or not
 abbrev pub ClosedWithRings : List Point → List (List ℕ) → Type 0
 ClosedWithRings vs fs = Closed fs → Closed (trianglesOf vs fs ++ leftsOf vs fs)

@@ -1,4 +1,5 @@
 pub mod Demand3
+pub mod Area
 pub mod Cube
 pub mod TurnFaces
 pub mod Turns

@@ -3,7 +3,7 @@
 use mathlib.Core.Path.{_≡_}
 use mathlib.Core.Logic.{_↔_}
 use mathlib.Core.Bool.{true, false}
-use mathlib.Core.List.{List, [], _∷_}
+use mathlib.Core.List.{List, []}
 use Prim.Native.Nat.{ℕ, _*_, _^_, _<_}
 use lib.Dec.{T}
 use lib.ListN.{length}
@@ -64,7 +64,7 @@ pub record Moves (coords : List Float) : Type 0 where
       ≡ triples (placeOf (unmoved coords)) q (trianglesOf (moved coords) fs)
   -- the exact doubled area vector of every ring is the same; demand 3's premise on sides, `Closed`, speaks of corners alone
   pub areas : (ring : List ℕ) → Inside (unmoved coords) ring
-      → area (placeOf (moved coords)) (ring ∷ []) ≡ area (placeOf (unmoved coords)) (ring ∷ [])
+      → area (placeOf (moved coords)) ring ≡ area (placeOf (unmoved coords)) ring
   -- the moved first vertex lies within 1 of the origin in each coordinate
   pub near : (k : ℕ) → k < 3 → natAbs (exactOf (at (vertexOf (moved coords) 0) k)) < 2 ^ 1074
   -- moving twice is moving once: the second vector is +0, +0, +0, and by it nothing moves

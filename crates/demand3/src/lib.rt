@@ -1,1 +1,1 @@
-// No code: the theorem about the triangles and the exact volume of a closed cell is stated in specs/ and proved in proofs/.
+// No code: the theorems about triangles, areas and exact volumes are stated in specs/ and proved in proofs/.

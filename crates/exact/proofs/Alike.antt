@@ -1,17 +1,16 @@
 -- Faces that are alike: every weight that changes its sign with the direction has the same sum over their sides.
--- Then they are closed together, have the same doubled area vector, and run each side as often, the runs back taken off.
+-- Then they are closed together, and run each side as often, the runs back taken off; proofs/Area.antt has their doubled area vectors.
 use mathlib.Core.Path.{_≡_, refl, sym, _∙_, ap}
 use mathlib.Core.List.{List, [], _∷_, _++_}
 use Prim.Native.Nat.{ℕ, _+_}
 use lib.Dec.{eqb}
-use lib.IntN.{ℤ, pos, negℤ, natAbs, _+ℤ_, _*ℤ_, _-ℤ_, +ℤ-assoc, +ℤ-idl, +ℤ-invr, negℤ-negℤ}
+use lib.IntN.{ℤ, pos, natAbs, _+ℤ_, _-ℤ_, +ℤ-assoc, +ℤ-idl, +ℤ-invr}
 use Rattle.places.specs.Ring.{sides}
 use Rattle.places.specs.Loops.{oneIf}
 use Rattle.exact.specs.Sides.{allSides, fromTo, count, runs, Closed}
-use Rattle.exact.specs.Space.{V3, sum, plus, area, crossX, crossY, crossZ}
 use Rattle.exact.proofs.Ring.{minus-turned, no-difference}
-use Rattle.exact.proofs.Poly.{var, _⊕_, _⊗_, ⊖, ring}
-use Rattle.exact.proofs.Balance.{Anti, sum-append, anti-zero, and-comm}
+use Rattle.exact.proofs.Poly.{var, _⊕_, ⊖, ring}
+use Rattle.exact.proofs.Balance.{sum, Anti, sum-append, anti-zero, and-comm}
 
 pub record Alike (gs fs : List (List ℕ)) : Type 1 where
   pub sums : (w : ℕ → ℕ → ℤ) → Anti w → sum w (allSides gs) ≡ sum w (allSides fs)
@@ -47,9 +46,6 @@ fourfold a b e f = ring (a ∷ b ∷ e ∷ f ∷ []) ((var 0 ⊕ var 3) ⊕ ⊖ 
 crosswise : (a b e f : ℕ) → pos a -ℤ pos b ≡ pos e -ℤ pos f → a + f ≡ b + e
 crosswise a b e f h = level (a + f) (b + e) (fourfold (pos a) (pos b) (pos e) (pos f) ∙ rw h (+ℤ-invr (pos e -ℤ pos f)))
 
-minor : (a b c d : ℤ) → a *ℤ b -ℤ c *ℤ d ≡ negℤ (d *ℤ c -ℤ b *ℤ a)
-minor a b c d = ring (a ∷ b ∷ c ∷ d ∷ []) (var 0 ⊗ var 1 ⊕ ⊖ (var 2 ⊗ var 3)) (⊖ (var 3 ⊗ var 2 ⊕ ⊖ (var 1 ⊗ var 0))) tt
-
 module _ (gs fs : List (List ℕ)) (alike : Alike gs fs) where
   pub alike-closed : Closed fs → Closed gs
   unfolding runs
@@ -60,19 +56,3 @@ module _ (gs fs : List (List ℕ)) (alike : Alike gs fs) where
   pub alike-runs : (i j : ℕ) → runs i j gs + runs j i fs ≡ runs j i gs + runs i j fs
   unfolding runs
   alike-runs i j = crosswise _ _ _ _ (simp net-sum at (alike .sums (net i j) (net-anti i j)))
-
-  pub alike-area : (at : ℕ → V3) → area at gs ≡ area at fs
-  unfolding area
-  alike-area at = λ i. record {
-    x = alike .sums (crossX at) (λ u v. minor (at u .y) (at v .z) (at u .z) (at v .y)) i;
-    y = alike .sums (crossY at) (λ u v. minor (at u .z) (at v .x) (at u .x) (at v .z)) i;
-    z = alike .sums (crossZ at) (λ u v. minor (at u .x) (at v .y) (at u .y) (at v .x)) i;
-  }
-
-pub area-append : (at : ℕ → V3) (fs gs : List (List ℕ)) → area at (fs ++ gs) ≡ plus (area at fs) (area at gs)
-unfolding area plus
-area-append at fs gs = λ i. record {
-  x = sum-faces (crossX at) fs gs i;
-  y = sum-faces (crossY at) fs gs i;
-  z = sum-faces (crossZ at) fs gs i;
-}

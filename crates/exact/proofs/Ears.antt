@@ -13,9 +13,8 @@ use Rattle.places.specs.Lists.{without}
 use Rattle.places.specs.Ring.{walk, sides, prevOf, nextOf, earOf}
 use Rattle.places.proofs.Lists.{without-is}
 use Rattle.places.proofs.Rings.{prev-suc}
-use Rattle.exact.specs.Space.{sum}
 use Rattle.exact.proofs.Poly.{var, con, _⊕_, ⊖, ring}
-use Rattle.exact.proofs.Balance.{Anti}
+use Rattle.exact.proofs.Balance.{sum, Anti}
 
 abbrev last : ℕ → List ℕ → ℕ
 last a [] = a
@@ -72,7 +71,7 @@ module _ (w : ℕ → ℕ → ℤ) where
   walk-append a (c ∷ l) b m z = rw (walk-append c l b m z, +ℤ-assoc (w a c))
 
   -- a ring may start at any of its corners
-  sum-rotated : (l m : List ℕ) → sum w (sides (l ++ m)) ≡ sum w (sides (m ++ l))
+  pub sum-rotated : (l m : List ℕ) → sum w (sides (l ++ m)) ≡ sum w (sides (m ++ l))
   sum-rotated [] m = rw append-nil
   sum-rotated (a ∷ l) [] = ap (λ x. sum w (sides (a ∷ x))) (append-nil l)
   sum-rotated (a ∷ l) (b ∷ m) = walk-append a l b m a ∙ +ℤ-comm (sum w (walk a l b)) (sum w (walk b m a)) ∙ sym (walk-append b m a l b)

@@ -1,15 +1,17 @@
 -- Vertices that all move by one vector keep their exact sums: taking the vector off and then p is taking off both at once, and what the
 -- move takes from the cross product of a side is told by the side's two ends, so round a ring it adds up to 0.
 use mathlib.Core.Path.{_≡_, refl, ap, _∙_}
-use mathlib.Core.List.{List, [], _∷_, append-nil}
+use mathlib.Core.List.{List, [], _∷_}
 use Prim.Native.Nat.{ℕ}
 use lib.ListN.{getD}
 use lib.IntN.{ℤ, pos, _+ℤ_, _*ℤ_, _-ℤ_}
 use Rattle.places.specs.Lists.{Each}
 use Rattle.places.specs.Ring.{walk, sides}
 use Rattle.places.proofs.Lists.{each-head, each-tail}
-use Rattle.exact.specs.Space.{V3, less, plus, triples, sum, area, crossX, crossY, crossZ}
+use Rattle.exact.specs.Space.{V3, less, plus, triples, cross, area}
 use Rattle.exact.proofs.Poly.{var, con, _⊕_, _⊗_, ⊖, ring}
+use Rattle.exact.proofs.Balance.{sum}
+use Rattle.exact.proofs.Area.{crossX, crossY, crossZ, area-is}
 
 -- the vertex v moves by o: `at` says where it is before, and `at′` where it is afterwards
 abbrev pub MovesBy : (ℕ → V3) → (ℕ → V3) → V3 → ℕ → Type 0
@@ -85,28 +87,30 @@ minor-moved p q a b c d =
     ((var 2 ⊕ ⊖ (var 0)) ⊗ (var 5 ⊕ ⊖ (var 1)) ⊕ ⊖ ((var 3 ⊕ ⊖ (var 1)) ⊗ (var 4 ⊕ ⊖ (var 0))))
     ((var 2 ⊗ var 5 ⊕ ⊖ (var 3 ⊗ var 4)) ⊕ ⊖ ((var 0 ⊗ var 5 ⊕ ⊖ (var 1 ⊗ var 4)) ⊕ ⊖ (var 0 ⊗ var 3 ⊕ ⊖ (var 1 ⊗ var 2)))) tt
 
+-- what a move by o takes from the cross product of two places is told by each of them alone
+cross-moved : (a b o : V3) → cross (less a o) (less b o) ≡ less (cross a b) (less (cross o b) (cross o a))
+unfolding cross less
+cross-moved a b o = λ i. record {
+  x = minor-moved (o .y) (o .z) (a .y) (a .z) (b .y) (b .z) i;
+  y = minor-moved (o .z) (o .x) (a .z) (a .x) (b .z) (b .x) i;
+  z = minor-moved (o .x) (o .y) (a .x) (a .y) (b .x) (b .y) i;
+}
+
 module _ (at at′ : ℕ → V3) (o : V3) where
-  cross-x : (u v : ℕ) → MovesBy at at′ o u → MovesBy at at′ o v
-      → crossX at′ u v ≡ crossX at u v -ℤ ((o .y *ℤ at v .z -ℤ o .z *ℤ at v .y) -ℤ (o .y *ℤ at u .z -ℤ o .z *ℤ at u .y))
-  unfolding less
-  cross-x u v m n = rw (m, n) (minor-moved (o .y) (o .z) (at u .y) (at u .z) (at v .y) (at v .z))
-
-  cross-y : (u v : ℕ) → MovesBy at at′ o u → MovesBy at at′ o v
-      → crossY at′ u v ≡ crossY at u v -ℤ ((o .z *ℤ at v .x -ℤ o .x *ℤ at v .z) -ℤ (o .z *ℤ at u .x -ℤ o .x *ℤ at u .z))
-  unfolding less
-  cross-y u v m n = rw (m, n) (minor-moved (o .z) (o .x) (at u .z) (at u .x) (at v .z) (at v .x))
-
-  cross-z : (u v : ℕ) → MovesBy at at′ o u → MovesBy at at′ o v
-      → crossZ at′ u v ≡ crossZ at u v -ℤ ((o .x *ℤ at v .y -ℤ o .y *ℤ at v .x) -ℤ (o .x *ℤ at u .y -ℤ o .y *ℤ at u .x))
-  unfolding less
-  cross-z u v m n = rw (m, n) (minor-moved (o .x) (o .y) (at u .x) (at u .y) (at v .x) (at v .y))
+  side-moved : (u v : ℕ) → MovesBy at at′ o u → MovesBy at at′ o v
+      → cross (at′ u) (at′ v) ≡ less (cross (at u) (at v)) (less (cross o (at v)) (cross o (at u)))
+  side-moved u v m n = rw (m, n) (cross-moved (at u) (at v) o)
 
   -- a ring all of whose corners move has the doubled area vector that it had
-  pub moved-area : (r : List ℕ) → Each 0 (MovesBy at at′ o) r → area at′ (r ∷ []) ≡ area at (r ∷ [])
-  unfolding area
+  pub moved-area : (r : List ℕ) → Each 0 (MovesBy at at′ o) r → area at′ r ≡ area at r
+  unfolding less
   moved-area r e =
-      rw append-nil (λ i. record {
-        x = ring-by-ends (crossX at) (crossX at′) (λ v. o .y *ℤ at v .z -ℤ o .z *ℤ at v .y) cross-x r e i;
-        y = ring-by-ends (crossY at) (crossY at′) (λ v. o .z *ℤ at v .x -ℤ o .x *ℤ at v .z) cross-y r e i;
-        z = ring-by-ends (crossZ at) (crossZ at′) (λ v. o .x *ℤ at v .y -ℤ o .y *ℤ at v .x) cross-z r e i;
+      rw (area-is at′ r, area-is at r) (λ i. record {
+        x = ring-by-ends (crossX at) (crossX at′) (λ v. cross o (at v) .x) (λ u v m n. ap (λ (c : V3). c .x) (side-moved u v m n)) r e i;
+        y = ring-by-ends (crossY at) (crossY at′) (λ v. cross o (at v) .y) (λ u v m n. ap (λ (c : V3). c .y) (side-moved u v m n)) r e i;
+        z = ring-by-ends (crossZ at) (crossZ at′) (λ v. cross o (at v) .z) (λ u v m n. ap (λ (c : V3). c .z) (side-moved u v m n)) r e i;
       })
+
+-- about every reference point a ring has the doubled area vector that it has about (0, 0, 0)
+pub area-about : (at : ℕ → V3) (p : V3) (r : List ℕ) → area (λ v. less (at v) p) r ≡ area at r
+area-about at p r = moved-area at (λ v. less (at v) p) p r (record { holds = λ k h. refl })

@@ -9,9 +9,9 @@ use Rattle.places.specs.Lists.{Each}
 use Rattle.places.proofs.Lists.{each-head, each-tail}
 use Rattle.places.specs.Ring.{sides}
 use Rattle.exact.specs.Sides.{allSides, runs, Closed}
-use Rattle.exact.specs.Space.{V3, det, less, triples, sum}
+use Rattle.exact.specs.Space.{V3, det, less, triples}
 use Rattle.exact.proofs.Poly.{E, var, con, _⊕_, _⊗_, ⊖, ring}
-use Rattle.exact.proofs.Balance.{sum-append, anti-zero}
+use Rattle.exact.proofs.Balance.{sum, sum-append, anti-zero}
 
 -- ---- what a shift of the reference point adds is a sum over the triangle's sides
 -- the same over expressions

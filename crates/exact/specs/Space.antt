@@ -1,12 +1,11 @@
--- Exact sums over triangles: places are whole numbers, so nothing is rounded.
-use mathlib.Core.List.{List, [], _∷_}
+-- Exact sums over triangles and over sides: places are whole numbers, so nothing is rounded.
+use mathlib.Core.List.{List, [], _∷_, map}
 use Prim.Native.Nat.{ℕ}
-use lib.IntN.{ℤ, pos, _+ℤ_, _*ℤ_, _-ℤ_}
+use lib.IntN.{ℤ, pos, negℤ, _+ℤ_, _*ℤ_, _-ℤ_}
 use lib.ListN.{getD}
 use Rattle.places.specs.Ring.{sides}
-use Rattle.exact.specs.Sides.{allSides}
 
--- a place, or a step from one place to another
+-- a place, a step from one place to another, or an area vector
 pub record V3 : Type 0 where
   pub x : ℤ
   pub y : ℤ
@@ -29,21 +28,30 @@ abbrev pub triples : (ℕ → V3) → V3 → List (List ℕ) → ℤ
 triples at p [] = pos 0
 triples at p (t ∷ ts) = det (less (at (getD t 0 0)) p) (less (at (getD t 1 0)) p) (less (at (getD t 2 0)) p) +ℤ triples at p ts
 
--- the sum over sides of a number for each
-abbrev pub sum : (ℕ → ℕ → ℤ) → List (ℕ × ℕ) → ℤ
-sum w [] = pos 0
-sum w (e ∷ l) = w (e .0) (e .1) +ℤ sum w l
+-- ---- area vectors
+-- (0, 0, 0)
+abbrev pub zeroVector : V3
+zeroVector = record { x = pos 0; y = pos 0; z = pos 0 }
 
--- u × v, a coordinate at a time
-abbrev pub crossX : (ℕ → V3) → ℕ → ℕ → ℤ
-crossX at u v = at u .y *ℤ at v .z -ℤ at u .z *ℤ at v .y
+-- the sum of vectors; of none it is (0, 0, 0)
+abbrev pub vectorSum : List V3 → V3
+vectorSum [] = zeroVector
+vectorSum (v ∷ vs) = plus v (vectorSum vs)
 
-abbrev pub crossY : (ℕ → V3) → ℕ → ℕ → ℤ
-crossY at u v = at u .z *ℤ at v .x -ℤ at u .x *ℤ at v .z
+-- −a
+unfoldable pub opposite : V3 → V3
+opposite a = record { x = negℤ (a .x); y = negℤ (a .y); z = negℤ (a .z) }
 
-abbrev pub crossZ : (ℕ → V3) → ℕ → ℕ → ℤ
-crossZ at u v = at u .x *ℤ at v .y -ℤ at u .y *ℤ at v .x
+-- a × b
+unfoldable pub cross : V3 → V3 → V3
+cross a b =
+    record { x = a .y *ℤ b .z -ℤ a .z *ℤ b .y; y = a .z *ℤ b .x -ℤ a .x *ℤ b .z; z = a .x *ℤ b .y -ℤ a .y *ℤ b .x }
 
--- the doubled area vector of faces: the sum of u × v over their sides
-unfoldable pub area : (ℕ → V3) → List (List ℕ) → V3
-area at fs = record { x = sum (crossX at) (allSides fs); y = sum (crossY at) (allSides fs); z = sum (crossZ at) (allSides fs) }
+-- the doubled area vector of a triangle, of a face and of any other ring alike: the sum of a × b over its sides from a to b.
+-- `at` says where a vertex is
+unfoldable pub area : (ℕ → V3) → List ℕ → V3
+area at ring = vectorSum (map (λ e. cross (at (e .0)) (at (e .1))) (sides ring))
+
+-- the sum of the doubled area vectors of several rings, say the triangles of a face
+unfoldable pub areas : (ℕ → V3) → List (List ℕ) → V3
+areas at rings = vectorSum (map (area at) rings)

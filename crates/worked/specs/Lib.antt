@@ -1,3 +1,4 @@
 pub mod Table
 pub mod TurnFaces
 pub mod Local
+pub mod Area

@@ -87,7 +87,8 @@ seven =
     zero64 ∷ zero64 ∷ zero64 ∷ n10 ∷ zero64 ∷ zero64 ∷ zero64 ∷ n10 ∷ zero64 ∷ zero64 ∷ zero64 ∷ zero64
     ∷ zero64 ∷ m1 ∷ zero64 ∷ m1 ∷ m1 ∷ zero64 ∷ m1 ∷ zero64 ∷ zero64 ∷ []
 
-abbrev tri : ℕ → ℕ → ℕ → List ℕ
+-- the triangle of three vertex numbers
+abbrev pub tri : ℕ → ℕ → ℕ → List ℕ
 tri a b c = a ∷ b ∷ c ∷ []
 
 -- 0.75, 1.25, 3, 4, −1.5 and −6
@@ -110,7 +111,7 @@ abbrev m6 : Float
 m6 = ofInt binary64 (negsuc 5)
 
 -- a point at z = 0, and the plane x = d, with x ≤ d inside
-abbrev level : Float → Float → Point
+abbrev pub level : Float → Float → Point
 level x y = x ∷ y ∷ zero64 ∷ []
 
 abbrev upTo : Float → Plane

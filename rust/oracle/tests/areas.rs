@@ -78,9 +78,13 @@ fn along_z(z: i128) -> Vector {
 }
 
 #[rustfmt::skip]
+fn seven() -> Vec<Vector> {
+    level(&[[0, 0], [10, 0], [0, 10], [0, 0], [0, -1], [-1, -1], [-1, 0]])
+}
+
+#[rustfmt::skip]
 fn rows() -> Vec<Row> {
     let square = level(&[[0, 0], [1, 0], [1, 1], [0, 1]]);
-    let seven = level(&[[0, 0], [10, 0], [0, 10], [0, 0], [0, -1], [-1, -1], [-1, 0]]);
     let letter_l = level(&[[0, 0], [2, 0], [2, 1], [1, 1], [1, 2], [0, 2]]);
     let notched = level(&[[0, 0], [0, 1], [1, 2], [1, 1], [2, 1]]);
     let skew = [[0, 0, 0], [1, 0, 0], [1, 1, 1], [0, 1, 0]];
@@ -96,7 +100,7 @@ fn rows() -> Vec<Row> {
         full(&square, &bottom, 3, &[[2, 1, 0], [0, 3, 2]], along_z(-2)),
         full(&square, &backward, 0, &[[0, 1, 2], [2, 3, 0]], along_z(2)),
         Row {
-            points: seven,
+            points: seven(),
             face: vec![0, 1, 2, 3, 4, 5, 6],
             start: 0,
             triangles: vec![[6, 0, 1], [6, 1, 2], [2, 3, 4]],
@@ -143,6 +147,17 @@ fn the_rows_are_what_the_rust_gives() {
         assert_eq!(areas(&row.points, &triangles), row.in_triangles);
         assert_eq!(area(&row.points, &ring), row.in_ring);
         assert_eq!(area(&row.points, &face), row.in_face);
+    }
+}
+
+/// docs/LIMITS.md says so of them.
+#[test]
+fn the_seven_corners_are_short_from_every_start() {
+    let points = as_floats(&seven());
+    for start in 0..7 {
+        let face = started_at(start, &[0, 1, 2, 3, 4, 5, 6]);
+        let triangles = plain::ear_clip_triangles(&points, &face);
+        assert_eq!(left(&face, &triangles).len(), 4);
     }
 }
 

@@ -16,10 +16,12 @@
  * planes, which return yes or no):
  *   1 size    coordinates or query values not in threes (in pairs in the plane; planes in fours); 0 or over 256
  *             vertices, or points of a list of space; over 256 faces, 2,048 corners, 256 planes, 256 query points
- *             or 512 points of the plane; a work list over 3,072 numbers
+ *             or 512 points of the plane; a work list over 3,072 numbers; a face to check of under 3 or over 256
+ *             corners, its places not in threes, or over 254 triangles
  *   2 number  a coordinate or query value is NaN, infinite or above 2^40 in magnitude
  *   3 ends    ends fall, or the last is not the corner count
- *   4 index   a corner not below the vertex count, or a face number not below the face count
+ *   4 index   a corner not below the vertex count, a face number not below the face count, or a place of a face to
+ *             check not below its corner count
  *   5 empty   any face of no corners (planes, outward turning and intersection only)
  *  11 sides   a side between two different vertices, taken without direction, does not occur exactly twice over
  *             all faces, or a face holds a vertex twice (turning of backward faces only)
@@ -96,6 +98,21 @@ uint8_t wegrusamt_point_in_phed(const double *coords, size_t coords_len, const u
 uint8_t wegrusamt_triangles(const double *coords, size_t coords_len, const uint32_t *corners, size_t corners_len,
                             const uint32_t *ends, size_t ends_len, uint32_t face, uint32_t (*out)[3],
                             size_t out_len, size_t *count, size_t count_len);
+
+/* The same triangles by place: each number in out is the corner's place in the face's own corner list, from 0 to
+ * n - 1, and not its vertex number. Looked up in that list the places are the numbers of wegrusamt_triangles, in the
+ * same order. Refusals, room and count are as there. */
+uint8_t wegrusamt_triangle_places(const double *coords, size_t coords_len, const uint32_t *corners,
+                                  size_t corners_len, const uint32_t *ends, size_t ends_len, uint32_t face,
+                                  uint32_t (*out)[3], size_t out_len, size_t *count, size_t count_len);
+
+/* Whether triangles are a cut of a face of n corners, 3 to 256. places: corner places of the face, 0 to n - 1,
+ * three a triangle, in one list of numbers. Yes exactly when there are n - 2 triangles of three different places
+ * each, each side of the face (from a place to the next, and from the last to the first) occurs in exactly one
+ * triangle in its own direction and in none reversed, and every other side that occurs does so once each way.
+ * Where the points lie is not asked. What wegrusamt_triangle_places gives for a fully cut face of 3 to 256 corners
+ * is such a cut. Refusals 1, 4, 6. out: 1 or 0. */
+uint8_t wegrusamt_check_cut(uint32_t n, const uint32_t *places, size_t places_len, size_t *out, size_t out_len);
 
 /* All that the cell report says of a cell. queries: three numbers a point, at most 256 points. counts: triangles,
  * closed (1 or 0), faces cut short, query points contained. volume: 1 number. */

@@ -14,12 +14,13 @@ static ucontext_t back, there;
 static double coords[3 * VERTICES], far_coords[3 * VERTICES], queries[768], first[3072], second[3072], planes[1024], plane[1024];
 static double to_move[3 * VERTICES];
 static uint32_t torus[4 * VERTICES], torus_ends[VERTICES], wide[MOST], wide_ends[VERTICES], one[MOST], one_end[1], marked[2304];
-static uint32_t triangles[MOST][3];
+static uint32_t triangles[MOST][3], fan[3 * (VERTICES - 2)];
 static double out[8];
 static size_t counts[4];
 static uint8_t code;
 
-/* a ring of rings, 256 vertices and 256 quadrangles, closed; the same with eight corners a face; and one face of all corners */
+/* a ring of rings, 256 vertices and 256 quadrangles, closed; the same with eight corners a face; one face of all corners; and the
+ * cut of a face of 256 corners from its first corner to all others */
 static void make_cells(void) {
     for (int i = 0; i < RING; i++)
         for (int j = 0; j < RING; j++) {
@@ -38,6 +39,7 @@ static void make_cells(void) {
     for (int k = 0; k < 3 * VERTICES; k++) to_move[k] = coords[k] + 4000000;
     for (int k = 0; k < MOST; k++) one[k] = k % VERTICES;
     one_end[0] = MOST;
+    for (int k = 0; k < VERTICES - 2; k++) fan[3 * k + 1] = k + 1, fan[3 * k + 2] = k + 2;
     for (int k = 0; k < 2304; k++) marked[k] = k % 9 == 8 ? UINT32_MAX : (uint32_t)(k % VERTICES);
     for (int k = 0; k < 256; k++) planes[4 * k] = 1, planes[4 * k + 3] = 14 - k / 32.0;
     for (int k = 0; k < 512; k++) plane[2 * k] = k, plane[2 * k + 1] = k % 7;
@@ -51,6 +53,8 @@ static void nothing(void) { code = 0; }
 static void volume(void) { code = wegrusamt_volume(ONE, out, 8); }
 static void geometric_centroid(void) { code = wegrusamt_geometric_centroid(ONE, out, 8); }
 static void cut(void) { code = wegrusamt_triangles(ONE, 0, triangles, MOST, counts, 4); }
+static void cut_by_place(void) { code = wegrusamt_triangle_places(ONE, 0, triangles, MOST, counts, 4); }
+static void check_cut(void) { code = wegrusamt_check_cut(VERTICES, fan, 3 * (VERTICES - 2), counts, 4); }
 static void closed(void) { code = wegrusamt_closed(WIDE, counts, 4); }
 static void contains(void) { code = wegrusamt_contains(WIDE, 1, 2, 3, counts, 4); }
 static void in_phed(void) { code = wegrusamt_point_in_phed(coords, 3 * VERTICES, marked, 2304, 1, 2, 3, counts, 4); }
@@ -114,7 +118,8 @@ int main(void) {
     /* the most bytes are those that the header names */
     static const struct { const char *name; void (*call)(void); size_t most; } calls[] = {
         {"volume", volume, 63000}, {"geometric_centroid", geometric_centroid, 63000}, {"survey", survey, 63000},
-        {"survey, one face", survey_of_one_face, 63000}, {"triangles", cut, 38000}, {"closed", closed, 12000},
+        {"survey, one face", survey_of_one_face, 63000}, {"triangles", cut, 38000},
+        {"triangle_places", cut_by_place, 96000}, {"check_cut", check_cut, 4000}, {"closed", closed, 12000},
         {"turn_faces", turn_faces, 133000}, {"convex_intersection_volume", overlap, 26000}, {"contains", contains, 1000},
         {"point_in_phed", in_phed, 1000}, {"is_convex", is_convex, 1000}, {"into_ccw", into_ccw, 1000},
         {"plane_of_face", plane_of_face, 1000}, {"clip_face", clip_face, 1000}, {"clip_convex", clip_convex, 1000},

@@ -13,7 +13,7 @@ ORACLE = os.path.join(TOP, 'rust', 'oracle')
 ENTRY = {
     'volume': (10, 1, 0), 'centroid': (11, 3, 0), 'geometric_centroid': (12, 3, 0), 'bounds': (13, 6, 0), 'scale': (14, 1, 0),
     'plane_of_face': (19, 4, 0), 'closed': (20, 0, 1), 'contains': (21, 0, 1), 'point_in_phed': (22, 0, 1),
-    'is_convex': (23, 0, 1), 'describe': (24, 0, 4), 'survey': (30, 1, 4), 'survey_of_queries': (31, 1, 4),
+    'is_convex': (23, 0, 1), 'describe': (24, 0, 4), 'check_cut': (25, 0, 1), 'survey': (30, 1, 4), 'survey_of_queries': (31, 1, 4),
     'newell_normal': (40, 3, 0), 'vertex_centroid': (41, 3, 0), 'list_bounds': (42, 6, 0), 'signed_area2': (43, 1, 0),
     'vertex_centroid2': (44, 2, 0), 'bounds2': (45, 4, 0), 'tet_volume': (50, 1, 0), 'wedge_volume': (51, 1, 0),
     'hex_volume': (52, 1, 0), 'tet_contains': (53, 0, 1), 'wedge_contains': (54, 0, 1), 'hex_contains': (55, 0, 1),
@@ -21,7 +21,7 @@ ENTRY = {
     'pattern': (65, 0, 0), 'of_pattern': (66, 0, 0), 'cross2': (70, 0, 0), 'dominant_axis': (71, 0, 0),
     'plane_same_side': (72, 0, 0), 'plane_coplanar_opposite': (73, 0, 0), 'project2': (74, 2, 0),
     'segment_intersection': (75, 2, 0), 'segment_plane_intersection': (76, 3, 0), 'into_ccw': (80, 0, 0),
-    'turn_faces': (81, 0, 1), 'into_ccw2': (82, 0, 0), 'to_local': (83, 3, 0), 'triangles': (90, 0, 1), 'clip_face': (100, 0, 2),
+    'turn_faces': (81, 0, 1), 'into_ccw2': (82, 0, 0), 'to_local': (83, 3, 0), 'triangles': (90, 0, 1), 'triangle_places': (91, 0, 1), 'clip_face': (100, 0, 2),
     'clip_convex': (101, 0, 2), 'convex_intersection_area': (102, 1, 0), 'convex_intersection_volume': (103, 1, 0)}
 
 # The entries that measure a cell and take nothing else.

@@ -61,14 +61,23 @@ class CellCase(Case):
     def cut(self, face):
         return [int(w) for w in self.oracle.ask('ear_clip_triangles', f'{points(self.cell[0])} {whole(face)}')]
 
-    def triangles(self, face, room=None):
+    def cut_by_place(self, face):
+        """The cut of the face whose vertices are the points of its corners, in order."""
+        corners = [x for v in face for x in self.cell[0][3 * v:3 * v + 3]]
+        return [int(w) for w in self.oracle.ask('ear_clip_triangles', f'{points(corners)} {whole(range(len(face)))}')]
+
+    def triangles(self, face, room=None, entry='triangles'):
         """The triangles of a face, in a list of some places more than they need unless the room is given."""
         sound = face < len(self.cell[2]) and not refusal(self.cell)
         n = len(faces(self.cell)[face]) if sound else 3
         room = max(n - 2, 0) + 1 if room is None else room
-        why = self.refused('triangles', refusal(self.cell, face=face, room=room))
-        count, *cut = [0] if why else self.cut(faces(self.cell)[face])
-        self.put('triangles', [face], why, counts=[count], shown=f' face {face}, {room} places', lent={'triangles': after(cut, 3 * room, MARK)})
+        why = self.refused(entry, refusal(self.cell, face=face, room=room))
+        ask = self.cut if entry == 'triangles' else self.cut_by_place
+        count, *cut = [0] if why else ask(faces(self.cell)[face])
+        self.put(entry, [face], why, counts=[count], shown=f' face {face}, {room} places', lent={'triangles': after(cut, 3 * room, MARK)})
+
+    def triangle_places(self, face, room=None):
+        self.triangles(face, room, 'triangle_places')
 
     def shape(self, numbers=range(3)):
         """The description, and whether the cell is convex, for each thing that may be known of it, by its number."""

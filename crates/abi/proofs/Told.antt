@@ -13,12 +13,11 @@ use Rattle.geometry.specs.declared.Count.{Count}
 use Rattle.geometry.specs.declared.Place.{Place}
 use Rattle.geometry.specs.declared.Done.{Done}
 use Rattle.geometry.specs.declared.Clipped.{Clipped}
-use Rattle.geometry.specs.Cells.{trianglesAnswer}
 use Rattle.geometry.specs.Points.{toLocalAnswer, localOriginAnswer}
 use Rattle.geometry.proofs.Answers.{origin-alike}
 use Rattle.geometry.specs.TurnFaces.{canTurnAnswer, TurnFacesGives}
 use Rattle.geometry.specs.Listed.{Listed, Reply, told, written, ofNumber, ofCount, ofDone, doneTold, ofShape, clippingTold, measureTold}
-use Rattle.geometry.specs.Listed.{ofPlace, trianglesTold, toLocalTold, codeWithoutRoom, TurnFacesTold}
+use Rattle.geometry.specs.Listed.{ofPlace, countTold, toLocalTold, codeWithoutRoom, TurnFacesTold}
 
 -- ---- beside the work lists
 pub shown-by : {c d : Clipped × List Float × List Float} → c ≡ d → (shown : List ℕ) {t : ℕ × List ℕ × List Float × List Float}
@@ -52,16 +51,14 @@ pub uncounted-refused : {L : Type 0} {a : Count} {list : L} {answer : Count × L
     → told why [] [] ≡ written (ofCount (answer .0)) [] []
 uncounted-refused e q = rw (← e, q)
 
-module _ (coords : List Float) (corners ends : List ℕ) (k : ℕ) (out : List (List ℕ)) where
-  pub triangles-short : (count : List ℕ) {r : ℕ} → length count < 1 → told r [] [] ≡ written (ofCount
-      (trianglesAnswer coords corners ends k [] .0)) [] []
-      → (r, out, count) ≡ trianglesTold coords corners ends k out count
+module _ (answer : List (List ℕ) → Count × List (List ℕ)) (out : List (List ℕ)) where
+  pub triangles-short : (count : List ℕ) {r : ℕ} → length count < 1 → told r [] [] ≡ written (ofCount (answer [] .0)) [] []
+      → (r, out, count) ≡ countTold answer out count
   triangles-short [] h e = rw (ap (λ (t : Reply). t .0) e, ← ap (λ (t : Reply). t .2) e)
   triangles-short (x ∷ xs) h e = absurd (omega arith)
 
   pub triangles-long : (count : List ℕ) {a : Count} {r : ℕ} {out′ : List (List ℕ)} {count′ : List ℕ} → 1 ≤ length count
-      → (a, out′) ≡ trianglesAnswer coords corners ends k out → told r [] count′ ≡ written (ofCount a) [] count
-      → (r, out′, count′) ≡ trianglesTold coords corners ends k out count
+      → (a, out′) ≡ answer out → told r [] count′ ≡ written (ofCount a) [] count → (r, out′, count′) ≡ countTold answer out count
   triangles-long count h e p = rw (le-ltb (length count) 1 h, ← e, ap (λ (t : Reply). t .0) p, ap (λ (t : Reply). t .2) p)
 
 -- ---- vertices moved to a local origin: where there is no room for the vector the entry that only asks answers alike

@@ -5,7 +5,9 @@ ghost use Rattle.places.specs.Lent.{old, new};
 ghost use Rattle.geometry.specs.Cells.{volumeAnswer, centroidAnswer, geometricCentroidAnswer, boundsAnswer, scaleAnswer};
 ghost use Rattle.geometry.specs.Cells.{closedAnswer, containsAnswer, pointInPhedAnswer, trianglesAnswer};
 ghost use Rattle.geometry.specs.Survey.{surveyAnswer};
+ghost use Rattle.geometry.specs.CheckCut.{checkCutAnswer};
 ghost use Rattle.geometry.specs.Listed.{told, written, ofNumber, ofTruth, ofCount, ofPlace, ofExtent, ofSurveyed, trianglesTold};
+ghost use Rattle.geometry.specs.Listed.{trianglePlacesTold};
 
 #[no_mangle]
 pub extern "C" fn wegrusamt_volume(
@@ -112,7 +114,7 @@ pub extern "C" fn wegrusamt_point_in_phed(
     answer_lists::put_truth(geometry::point_in_phed(coords, cs, [x, y, z]), out)
 }
 
-// What the triangles of a face answer where their count has no place.
+// What the triangles of a face answer, by vertex number or by place, where their count has no place.
 fn uncounted(coords: &[f64], corners: &[u32], ends: &[u32], face: u32) -> u8
     ensures { λ r. ⌜ told r [] [] ≡ written (ofCount (trianglesAnswer (old coords) (old corners) (old ends) face [] .0)) [] [] ⌝ }
 {
@@ -139,6 +141,33 @@ pub extern "C" fn wegrusamt_triangles(
         return uncounted(coords, corners, ends, face);
     }
     answer_lists::put_count(geometry::triangles(coords, corners, ends, face, out), count)
+}
+
+#[no_mangle]
+pub extern "C" fn wegrusamt_triangle_places(
+    coords: &[f64],
+    corners: &[u32],
+    ends: &[u32],
+    face: u32,
+    out: &mut [[u32; 3]],
+    count: &mut [usize],
+) -> u8
+    ensures { λ r. ⌜ (r, new out, new count) ≡ trianglePlacesTold (old coords) (old corners) (old ends) face (old out) (old count) ⌝ }
+{
+    if count.len() < 1 {
+        return uncounted(coords, corners, ends, face);
+    }
+    answer_lists::put_count(
+        geometry::triangle_places(coords, corners, ends, face, out),
+        count,
+    )
+}
+
+#[no_mangle]
+pub extern "C" fn wegrusamt_check_cut(n: u32, places: &[u32], out: &mut [usize]) -> u8
+    ensures { λ r. ⌜ told r [] (new out) ≡ written (ofTruth (checkCutAnswer n (old places))) [] (old out) ⌝ }
+{
+    answer_lists::put_truth(geometry::check_cut(n, places), out)
 }
 
 // Four counts (triangles, closed, short, contained) in one list, the volume in another.

@@ -125,7 +125,8 @@ fn ends_refused(corners: &[u32], ends: &[u32]) -> bool
 }
 
 // Refusal 4: one of the numbers is not below n.
-fn index_refused(n: usize, cs: &[u32]) -> bool
+// Ruled out: n itself let through; the last number not looked at.
+pub fn index_refused(n: usize, cs: &[u32]) -> bool
     requires { ⌜ n < 4294967296 ⌝ }
     ensures { λ r. ⌜ r ≡ indexRefused n (now (cs .entry)) ⌝ }
 {

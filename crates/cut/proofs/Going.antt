@@ -19,8 +19,8 @@ use Rattle.places.proofs.Lists.{take-removed, take-three, map-at, map-without, 
 use Rattle.next_corner.specs.NextCorner.{findCorner, directionOf}
 use Rattle.flat.specs.Points.{Point, cornersOf}
 use Rattle.flat.specs.Flat.{newellOf, axisOf, pointOf, pointsOf}
-use Rattle.cut.specs.Cut.{Cut, clipped, cutRing, nextCornerOf, cutIn, axisFor, cutOf}
-use Rattle.cut.specs.Steps.{ringAt, triangleAt, Within, InOrder, StepAt, Stepped, Shown}
+use Rattle.cut.specs.Cut.{Cut, clipped, cutRing, nextCornerOf, cutIn, axisFor, cutOf, ringAt}
+use Rattle.cut.specs.Steps.{triangleAt, Within, InOrder, StepAt, Stepped, Shown}
 use Rattle.cut.specs.declared.Counts.{Counts}
 use Rattle.next_corner.proofs.NextCorner.{choose-below}
 
@@ -71,7 +71,7 @@ unfolding ringAt
 ring-long face ks = length-map ks (λ k. getD face k 0)
 
 -- the places of a face in order are the face itself
-whole-ring : (face ks : List ℕ) → InOrder ks → length ks ≡ length face → ringAt face ks ≡ face
+pub whole-ring : (face ks : List ℕ) → InOrder ks → length ks ≡ length face → ringAt face ks ≡ face
 unfolding ringAt
 whole-ring face ks o e =
     let look : ℕ → ℕ = λ k. getD face k 0 in
@@ -80,7 +80,7 @@ whole-ring face ks o e =
     let g : i < length ks = omega arith in
     map-at look ks i 0 0 g ∙ ap look (o i g))
 
-whole-within : (face ks : List ℕ) → InOrder ks → length ks ≡ length face → Within face ks
+pub whole-within : (face ks : List ℕ) → InOrder ks → length ks ≡ length face → Within face ks
 whole-within face ks o e = record { holds = λ k h. rw (o k h) (omega arith) }
 
 -- where all are places of the face, so are the first m, and so are all when one of those is removed
@@ -99,7 +99,7 @@ removed-within face k m ks w =
     (each-drop m ks w)
 
 -- the ring without k, and a ring of three
-ring-without : (face : List ℕ) (k : ℕ) (ks : List ℕ) → ringAt face (without k ks) ≡ without k (ringAt face ks)
+pub ring-without : (face : List ℕ) (k : ℕ) (ks : List ℕ) → ringAt face (without k ks) ≡ without k (ringAt face ks)
 unfolding ringAt
 ring-without face k ks = map-without (λ i. getD face i 0) k ks
 

@@ -2,3 +2,4 @@ pub mod Going
 pub mod Storing
 pub mod Facts
 pub mod Computed
+pub mod ByPlace

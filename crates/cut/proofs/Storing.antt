@@ -3,15 +3,17 @@
 use mathlib.Core.Path.{_≡_, refl, sym, _∙_}
 use mathlib.Core.Bool.{Bool, true, false}
 use mathlib.Core.List.{List, [], _∷_}
-use Prim.Native.Nat.{ℕ, _+_, _-_, _<_, _≤_}
+use Prim.Native.Nat.{ℕ, _+_, _-_, _*_, _<_, _≤_}
 use native.Mathlib.Omega.{arith}
 use borrow.Author.Tests.{eqb-true, eqb-false}
 use lib.Dec.{eqb}
 use lib.ListN.{length, getD, set, take, replicate, length-set}
-use lib.Seq.{getD-set-same, getD-set-other}
+use lib.Seq.{getD-set-same, getD-set-other, ext-getD}
 use Rattle.places.specs.Steps.{removed}
+use Rattle.places.specs.Ring.{placesOf}
 use Rattle.places.proofs.Folding.{Folding, fold-next, fold-end}
 use Rattle.places.proofs.Lists.{shift-removed, first-of}
+use Rattle.places.proofs.Rings.{length-places, place-at}
 use Rattle.floats.specs.F64.{zero64}
 use Rattle.cut.specs.Steps.{InOrder}
 
@@ -57,7 +59,17 @@ module _ {n i : ℕ} {l : List ℕ} (q : Ordering n i l) where
   pub order-end : n ≤ i → InOrder l
   order-end h k g = q .own k (omega (arith, q .long))
 
+  -- so they are the places in order
+  pub order-places : n ≤ i → l ≡ placesOf n
+  order-places h =
+      ext-getD 0 l (placesOf n) (q .long ∙ sym (length-places n)) (λ k g. order-end h k g ∙ sym (place-at n k (omega (arith, q .long))))
+
 -- ---- the first n places of an array of k places and of one of k points
 pub lent : (n k : ℕ) → n ≤ k
     → (length {A = ℕ} (take n (replicate k 0)) ≡ n) × (length (take n (replicate k (zero64 ∷ zero64 ∷ []))) ≡ n)
 lent n k h = (sym (first-of n k 0 h), sym (first-of n k (zero64 ∷ zero64 ∷ []) h))
+
+-- the first numbers of an array for the points of k corners, three a corner, and the first of one of k places
+pub copies-lent : (n k : ℕ) → n ≤ k
+    → (length (take (n * 3) (replicate (k * 3) zero64)) ≡ n * 3) × (length {A = ℕ} (take n (replicate k 0)) ≡ n)
+copies-lent n k h = (sym (first-of (n * 3) (k * 3) zero64 (omega arith)), sym (first-of n k 0 h))

@@ -3,12 +3,13 @@
 -- What the code's contracts cite, what the worked rows compute and what demand 3 speaks of is `cutOf`.
 use mathlib.Core.Bool.{cond}
 use Prim.Native.Nat.{ℕ, zero, suc, _-_}
-use mathlib.Core.List.{List, [], _∷_}
-use lib.ListN.{length}
+use mathlib.Core.Path.{_≡_}
+use mathlib.Core.List.{List, [], _∷_, map}
+use lib.ListN.{length, getD}
 use lib.Dec.{ltb}
 use lib.Ieee.{Float}
 use Rattle.places.specs.Lists.{without}
-use Rattle.places.specs.Ring.{earOf}
+use Rattle.places.specs.Ring.{placesOf, earOf}
 use Rattle.places.specs.declared.Found.{Found}
 use Rattle.places.specs.declared.Found.the-variants.{At, Nothing}
 use Rattle.flat.specs.Points.{Point, cornersOf}
@@ -60,3 +61,19 @@ unfoldable pub cutOf : List Point → List ℕ → Cut
 cutOf vs face =
     let cut = cutIn vs (axisFor vs face) face in
     cond (ltb (length face) 3) nothing cut
+
+-- ---- the same by place: a face may hold a vertex twice, and a place names one corner
+-- the corners' points are the vertices, and the face is its places 0 to n − 1 in order
+unfoldable pub cutByPlace : List Point → List ℕ → Cut
+cutByPlace vs face = cutOf (cornersOf vs face) (placesOf (length face))
+
+-- the vertex numbers that stand at places of a face
+unfoldable pub ringAt : List ℕ → List ℕ → List ℕ
+ringAt face ks = map (λ k. getD face k 0) ks
+
+-- it is the one cut: the numbers looked up in the face, it is `cutOf`, triangle for triangle and corner for corner of the ring that is left
+abbrev pub ByPlace : Type 0
+ByPlace =
+    (vs : List Point) (face : List ℕ) →
+    let cut = cutByPlace vs face in
+    cutOf vs face ≡ record { triangles = map (ringAt face) (cut .triangles); left = ringAt face (cut .left) }

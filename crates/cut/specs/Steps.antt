@@ -2,7 +2,7 @@
 use Prim.Native.Nat.{ℕ, _<_}
 use mathlib.Core.Path.{_≡_}
 use mathlib.Core.Bool.{Bool, true, false}
-use mathlib.Core.List.{List, [], _∷_, _++_, map}
+use mathlib.Core.List.{List, [], _∷_, _++_}
 use lib.ListN.{length, getD, drop, set}
 use Rattle.flat.specs.Points.{Point}
 use Rattle.places.specs.Lists.{Each}
@@ -10,14 +10,10 @@ use Rattle.places.specs.Steps.{removed}
 use Rattle.places.specs.Ring.{earOf}
 use Rattle.places.specs.declared.Found.{Found}
 use Rattle.places.specs.declared.Found.the-variants.{At, Nothing}
-use Rattle.cut.specs.Cut.{Cut}
+use Rattle.cut.specs.Cut.{Cut, ringAt}
 use Rattle.cut.specs.declared.Counts.{Counts}
 
--- ---- a ring that is kept as places of a face
--- its corners: what stands at those places
-unfoldable pub ringAt : List ℕ → List ℕ → List ℕ
-ringAt face ks = map (λ k. getD face k 0) ks
-
+-- ---- a ring that is kept as places of a face (its corners are `ringAt` these)
 -- they are all places of the face
 abbrev pub Within : List ℕ → List ℕ → Type 0
 Within face ks = Each 0 (λ k. k < length face) ks

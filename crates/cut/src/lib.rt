@@ -1,4 +1,6 @@
 // Cutting a face into triangles.
+pub mod by_place;
+
 ghost use mathlib.Core.Path.{_≡_};
 ghost use Prim.Native.Nat.{ℕ, _-_, _<_, _≤_};
 ghost use lib.ListN.{length, getD, set};
@@ -10,8 +12,8 @@ ghost use Rattle.flat.specs.Points.{verticesOf};
 ghost use Rattle.flat.specs.Steps.{Inside};
 ghost use Rattle.next_corner.specs.NextCorner.{findCorner};
 ghost use Rattle.flat.specs.Flat.{pointsOf};
-ghost use Rattle.cut.specs.Cut.{cutIn, cutOf};
-ghost use Rattle.cut.specs.Steps.{ringAt, triangleAt, Within, InOrder, Stepped, Shown};
+ghost use Rattle.cut.specs.Cut.{cutIn, cutOf, ringAt};
+ghost use Rattle.cut.specs.Steps.{triangleAt, Within, InOrder, Stepped, Shown};
 
 // How many triangles a cut gave, and how many corners of the ring it left (none where it came to its end).
 pub struct Counts {

@@ -7,3 +7,5 @@ pub mod Refused
 pub mod TurnFaces
 pub mod Turns
 pub mod Local
+pub mod OwnCut
+pub mod CheckCut

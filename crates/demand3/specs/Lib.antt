@@ -4,3 +4,4 @@ pub mod Cube
 pub mod TurnFaces
 pub mod Turns
 pub mod Local
+pub mod CheckCut

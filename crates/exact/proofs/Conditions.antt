@@ -22,7 +22,7 @@ use Rattle.exact.proofs.Reversed.{same-faces}
 use Rattle.exact.proofs.Test.{closed-test}
 
 -- ---- yes and no
-or-is : (a b : Bool) → ((a || b) ≡ false) ↔ ((a ≡ false) × (b ≡ false))
+pub or-is : (a b : Bool) → ((a || b) ≡ false) ↔ ((a ≡ false) × (b ≡ false))
 or-is true b = (λ e. (e, cc), λ p. p .0)
 or-is false b = (λ e. (refl, e), λ p. p .1)
 
@@ -103,7 +103,7 @@ strange-is fs = (
     two e i j n p = plain fs i j .0 (none-side (strange fs) (allSides fs) .0 e i j p) n
 
 -- ---- 'no face holds a vertex twice'
-single-cons : (v : ℕ) (face : List ℕ) → (Each 0 (λ w. eqb v w ≡ false) face × Single face) ↔ Single (v ∷ face)
+pub single-cons : (v : ℕ) (face : List ℕ) → (Each 0 (λ w. eqb v w ≡ false) face × Single face) ↔ Single (v ∷ face)
 single-cons v face = (
   λ p. go (p .0) (p .1),
   λ s. (

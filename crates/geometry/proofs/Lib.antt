@@ -1,3 +1,4 @@
 pub mod Answers
 pub mod WorkLists
 pub mod TurnFaces
+pub mod CheckCut

@@ -6,3 +6,4 @@ pub mod Clipping
 pub mod Points
 pub mod Leaves
 pub mod Listed
+pub mod CheckCut

@@ -25,7 +25,7 @@ use Rattle.geometry.specs.declared.Convexity.the-variants.{Convex, Conca
 use Rattle.geometry.specs.declared.PlaneAnswer.{PlaneAnswer}
 use Rattle.geometry.specs.declared.FacePlane.{FacePlane}
 use Rattle.geometry.specs.declared.Clipped.{Clipped}
-use Rattle.geometry.specs.Cells.{trianglesAnswer}
+use Rattle.geometry.specs.Cells.{trianglesAnswer, trianglePlacesAnswer}
 use Rattle.geometry.specs.Points.{toLocalAnswer}
 use Rattle.geometry.specs.TurnFaces.{canTurnAnswer, TurnFacesGives}
 
@@ -152,12 +152,20 @@ clippingTold c shown =
 abbrev pub measureTold : Number × List Float × List Float → List Float → ℕ × List Float × List Float × List Float
 measureTold m out = (written (ofNumber (m .0)) out [] .0, written (ofNumber (m .0)) out [] .1, m .1, m .2)
 
--- triangles, their number told in `count`: the code and both lists; without a place for the number there is no room for a triangle either
-abbrev pub trianglesTold : List Float → List ℕ → List ℕ → ℕ → List (List ℕ) → List ℕ → ℕ × List (List ℕ) × List ℕ
-trianglesTold coords corners ends k out count =
+-- triangles in a lent list, as `answer` gives them for that list, and their number told in `count`: the code and both lists; without a
+-- place for the number there is no room for a triangle either
+abbrev pub countTold : (List (List ℕ) → Count × List (List ℕ)) → List (List ℕ) → List ℕ → ℕ × List (List ℕ) × List ℕ
+countTold answer out count =
     let short = ltb (length count) 1 in
-    let a = trianglesAnswer coords corners ends k (cond short [] out) in
+    let a = answer (cond short [] out) in
     (written (ofCount (a .0)) [] count .0, cond short out (a .1), written (ofCount (a .0)) [] count .2)
+
+-- by vertex number, and by place
+abbrev pub trianglesTold : List Float → List ℕ → List ℕ → ℕ → List (List ℕ) → List ℕ → ℕ × List (List ℕ) × List ℕ
+trianglesTold coords corners ends k out count = countTold (trianglesAnswer coords corners ends k) out count
+
+abbrev pub trianglePlacesTold : List Float → List ℕ → List ℕ → ℕ → List (List ℕ) → List ℕ → ℕ × List (List ℕ) × List ℕ
+trianglePlacesTold coords corners ends k out count = countTold (trianglePlacesAnswer coords corners ends k) out count
 
 -- to_local, its vector told in `out`: the code and both lists; where the vector has no room nothing is moved
 abbrev pub toLocalTold : List Float → List Float → ℕ × List Float × List Float

@@ -12,7 +12,8 @@ ghost use Rattle.places.specs.Lent.{old, new};
 ghost use Rattle.geometry.specs.Answers.{named3};
 ghost use Rattle.geometry.specs.Cells.{volumeAnswer, centroidAnswer, geometricCentroidAnswer, boundsAnswer, scaleAnswer};
 ghost use Rattle.geometry.specs.Cells.{closedAnswer, containsAnswer, pointInPhedAnswer, cellOf, describeAnswer, isConvexAnswer};
-ghost use Rattle.geometry.specs.Cells.{intoCcwAnswer, planeOfFaceAnswer, trianglesAnswer};
+ghost use Rattle.geometry.specs.Cells.{intoCcwAnswer, planeOfFaceAnswer, trianglesAnswer, trianglePlacesAnswer};
+ghost use Rattle.geometry.specs.CheckCut.{checkCutAnswer, YesForCuts};
 ghost use Rattle.geometry.specs.Survey.{surveyAnswer};
 ghost use Rattle.geometry.specs.TurnFaces.{canTurnAnswer, TurnFacesGives};
 
@@ -372,6 +373,43 @@ pub fn triangles(
     }
     let c = cut::cut(coords, part, out);
     Count::Is(c.triangles)
+}
+
+// The same triangles by place: each corner by its place in the face, 0 to n - 1, as `check_cut` takes them.
+// Ruled out: the vertex number of a corner; the place of another corner at which the same vertex stands.
+pub fn triangle_places(
+    coords: &[f64],
+    corners: &[u32],
+    ends: &[u32],
+    face: u32,
+    out: &mut [[u32; 3]],
+) -> Count
+    ensures { λ r. ⌜ (r, new out) ≡ trianglePlacesAnswer (old coords) (old corners) (old ends) face (old out) ⌝ }
+{
+    let why = refusals::face_refusal(coords, corners, ends, face);
+    if why != 0 {
+        return Count::Refused(why);
+    }
+    let part = cell::face_by_number(corners, ends, face as usize);
+    if refusals::room_refused(part, out.len()) {
+        return Count::Refused(6);
+    }
+    let c = cut::by_place::cut_by_place(coords, part, out);
+    Count::Is(c.triangles)
+}
+
+// Whether triangles over the places of a face of n corners, three places each, are a cut of the face: n - 2 of three different places,
+// which run each side of the face once its own way and not back, and every other side that occurs once each way.
+// Ruled out: a triangle that is turned round accepted; a list with one triangle too few accepted; our own cut refused.
+pub fn check_cut(n: u32, places: &[u32]) -> Truth
+    ensures { λ r. ⌜ r ≡ checkCutAnswer n (old places) ⌝ }
+    ensures { λ r. ⌜ YesForCuts n (old places) r ⌝ }
+{
+    let why = refusals::check_refusal(n, places);
+    if why != 0 {
+        return Truth::Refused(why);
+    }
+    Truth::Is(cut_check::is_cut(n as usize, places))
 }
 
 // Whether the ray from the point along +x crosses an odd number of faces, which stand in one list: 4,294,967,295 ends a face,

@@ -11,7 +11,7 @@ use lib.Dec.{eqb, ltb}
 use lib.ListN.{length, getD, List·getD-append}
 use lib.Seq.{getD-at}
 use borrow.Author.Tests.{ltb-true, ltb-false, ne-eqb}
-use Rattle.places.specs.Ring.{walk, sides, prevOf, nextOf, earOf}
+use Rattle.places.specs.Ring.{walk, sides, prevOf, nextOf, placesFrom, placesOf, earOf}
 use Rattle.places.specs.Lists.{Each}
 use Rattle.places.proofs.Lists.{each-nil, each-cons}
 
@@ -43,6 +43,24 @@ unfolding earOf
 each-ear k l h e =
     each-cons (e .holds (prevOf k (length l)) (prev-below k (length l) h))
     (each-cons (e .holds k h) (each-cons (e .holds (nextOf k (length l)) (next-below k (length l) h)) each-nil))
+
+-- ---- the places in order: there are n, and at each stands its own number
+length-from : (left i : ℕ) → length (placesFrom left i) ≡ left
+length-from zero i = refl
+length-from (suc left) i = ap suc (length-from left (i + 1))
+
+from-at : (left i k : ℕ) → k < left → getD (placesFrom left i) k 0 ≡ i + k
+from-at zero i k h = absurd (not-suc-le-zero h)
+from-at (suc left) i zero h = omega arith
+from-at (suc left) i (suc k) h = from-at left (i + 1) k (le-of-suc-le-suc h) ∙ omega arith
+
+pub length-places : (n : ℕ) → length (placesOf n) ≡ n
+unfolding placesOf
+length-places n = length-from n 0
+
+pub place-at : (n k : ℕ) → k < n → getD (placesOf n) k 0 ≡ k
+unfolding placesOf
+place-at n k h = from-at n 0 k h ∙ omega arith
 
 -- ---- sides
 module _ {A : Type 0} where

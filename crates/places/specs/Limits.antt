@@ -29,6 +29,14 @@ mostQueries = 256
 abbrev pub mostPlanes : ℕ
 mostPlanes = 256
 
+-- corners of a face whose triangles are checked
+abbrev pub mostCheckedCorners : ℕ
+mostCheckedCorners = 256
+
+-- triangles that are checked
+abbrev pub mostCheckedTriangles : ℕ
+mostCheckedTriangles = 254
+
 -- points of a list of points of the plane
 abbrev pub mostPlanePoints : ℕ
 mostPlanePoints = 512

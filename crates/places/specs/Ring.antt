@@ -1,6 +1,6 @@
 -- A ring is a list whose first element comes again after its last.
 use mathlib.Core.Bool.{cond}
-use Prim.Native.Nat.{ℕ, _+_, _-_}
+use Prim.Native.Nat.{ℕ, zero, suc, _+_, _-_}
 use mathlib.Core.List.{List, [], _∷_}
 use lib.ListN.{length, getD}
 use lib.Dec.{eqb, ltb}
@@ -30,6 +30,15 @@ nextOf i n = cond (ltb (i + 1) n) (i + 1) 0
 
 unfoldable pub prevOf : ℕ → ℕ → ℕ
 prevOf i n = cond (eqb i 0) (n - 1) (i - 1)
+
+-- the next `left` places from i on, in order
+abbrev pub placesFrom : ℕ → ℕ → List ℕ
+placesFrom zero i = []
+placesFrom (suc left) i = i ∷ placesFrom left (i + 1)
+
+-- the places of a ring of n, in order: 0 to n − 1
+unfoldable pub placesOf : ℕ → List ℕ
+placesOf n = placesFrom n 0
 
 -- what stands before place k, and after it
 abbrev pub before : {A : Type 0} → A → ℕ → List A → A

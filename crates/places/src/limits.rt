@@ -21,6 +21,12 @@ pub const MOST_QUERIES: usize = 256;
 // Planes that a face is clipped by.
 pub const MOST_PLANES: usize = 256;
 
+// Corners of a face whose triangles are checked.
+pub const MOST_CHECKED_CORNERS: usize = 256;
+
+// Triangles that are checked.
+pub const MOST_CHECKED_TRIANGLES: usize = 254;
+
 // Points of a list of points of the plane.
 pub const MOST_PLANE_POINTS: usize = 512;
 

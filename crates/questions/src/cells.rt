@@ -25,7 +25,8 @@ pub fn measured(
     }
 }
 
-// Counts; the arguments are a point, or what is known of the shape.
+// Counts; the arguments are a point, or what is known of the shape. Triangles that are checked stand in the corner list, and the argument
+// is how many corners their face has.
 pub fn counted(
     q: &[u64],
     coords: &[f64],
@@ -43,6 +44,7 @@ pub fn counted(
         22 => abi::cells::wegrusamt_point_in_phed(coords, corners, x, y, z, counts),
         23 => abi::outward::wegrusamt_is_convex(coords, corners, ends, shape, counts),
         24 => abi::outward::wegrusamt_describe(coords, corners, ends, shape, counts),
+        25 => abi::cells::wegrusamt_check_cut(low(word(q, 1)), corners, counts),
         _ => unknown(q),
     }
 }

@@ -95,7 +95,7 @@ fn in_lists(
         81 => turned::backward(q, coords, corners, ends, values, counts),
         82 => turned::outline(q, coords, values, counts),
         83 => turned::local(q, coords, values, counts),
-        90 => turned::triangles(q, coords, corners, ends, values, counts),
+        90 | 91 => turned::triangles(q, coords, corners, ends, values, counts),
         100 | 101 | 102 | 103 => clips::agrees(q, coords, corners, ends, values, counts),
         _ => plain(q, coords, corners, ends, values, counts),
     }

@@ -67,7 +67,25 @@ pub fn local(q: &[u64], coords: &mut [f64], values: &mut [f64], counts: &[usize]
     lent::same_numbers(others(q), coords, 0)
 }
 
-// Whether the triangles of a face, whose number is the first argument, are as stored.
+// The code of the triangles of a face, whose number is the first argument, by vertex number or by place.
+fn face_cut(
+    q: &[u64],
+    coords: &[f64],
+    corners: &[u32],
+    ends: &[u32],
+    out: &mut [[u32; 3]],
+    counts: &mut [usize],
+) -> u8
+    requires { ⌜ length (now out) ≤ 256 ⌝ }
+{
+    let face = low(word(q, 1));
+    match word(q, 0) {
+        91 => abi::cells::wegrusamt_triangle_places(coords, corners, ends, face, out, counts),
+        _ => abi::cells::wegrusamt_triangles(coords, corners, ends, face, out, counts),
+    }
+}
+
+// Whether they are as stored.
 fn cut(
     q: &[u64],
     coords: &[f64],
@@ -79,7 +97,7 @@ fn cut(
 ) -> bool
     requires { ⌜ length (now out) ≤ 256 ⌝ }
 {
-    let code = abi::cells::wegrusamt_triangles(coords, corners, ends, low(word(q, 1)), out, counts);
+    let code = face_cut(q, coords, corners, ends, out, counts);
     if !answered_beside(q, code, values, counts) {
         return false;
     }

@@ -6,21 +6,25 @@ use mathlib.Core.Bool.{Bool, true, false, not, _&&_, _||_, cond}
 use mathlib.Core.List.{List, [], _∷_}
 use Prim.Native.Nat.{ℕ, _-_, _/_, _%_, _<_, _≤_}
 use native.Mathlib.Omega.{arith}
-use borrow.Author.Tests.{ltb-false, leb-false, eqb-true, eqb-false, not-false, eq-eqb, ne-eqb}
+use borrow.Author.Tests.{le-ltb, lt-leb, ltb-false, leb-false, eqb-true, eqb-false, not-false, eq-eqb, ne-eqb}
 use lib.Dec.{T, eqb, leb, ltb}
 use lib.ListN.{length, getD}
 use lib.Seq.{length-slice}
 use lib.Ieee.{Float}
 use Rattle.places.specs.Loops.{anyOf}
+use Rattle.places.specs.Lists.{Each}
+use Rattle.places.specs.Stored.{inThrees}
 use Rattle.places.proofs.Lists.{each-slice}
 use Rattle.places.proofs.Stored.{length-threes, length-pairs}
+use Rattle.exact.proofs.Conditions.{none-each}
 use Rattle.flat.specs.Points.{verticesOf}
 use Rattle.flat.specs.Steps.{Inside}
 use Rattle.cell.specs.Faces.{facesOf, rises}
-use Rattle.cell.specs.Refusals.{firstRow, pointsRefused, numberRefused, isEmpty, emptyRefused, refusalOf}
+use Rattle.cell.specs.Refusals.{firstRow, pointsRefused, numberRefused, notBelow, indexRefused, isEmpty, emptyRefused, refusalOf}
 use Rattle.cell.specs.Steps.{Sound}
 use Rattle.cell.proofs.Faces.{face-at, rises-at, length-faces}
-use Rattle.cell.proofs.Refusals.{row-applies, row-passed, row-zero, no-row, or-none, any-none, Counted, counted, sound, asked-known}
+use Rattle.cell.proofs.Refusals.{row-applies, row-passed, row-zero, no-row, or-none, any-none, all-below, Counted, counted, sound}
+use Rattle.cell.proofs.Refusals.{asked-known}
 use Rattle.inside.specs.Inside.{faceEnd}
 use Rattle.inside.specs.Steps.{MarkedInside}
 use Rattle.local.specs.Local.{moveRefused}
@@ -29,6 +33,7 @@ use Rattle.planes.proofs.Stored.{length-fours}
 use Rattle.refusals.specs.Refusals.{firstRefusal, listRefusal, localRefusal, pairsRefused, planeRefusal, faceRefusal, facesRefusal}
 use Rattle.refusals.specs.Refusals.{roomRefused, trianglesRefusal, strays, phedRefusal, queriesRefused, surveyRefusal, planesRefused}
 use Rattle.refusals.specs.Refusals.{workRefused, worksRefusal, clipRefusal, planarRefusal, overlapRefusal}
+use Rattle.refusals.specs.Refusals.{checkedRefused, checkRefusal}
 use Rattle.refusals.specs.Steps.{partsRefused}
 
 -- ---- the first of two refusals
@@ -154,6 +159,44 @@ module _ (coords : List Float) (corners ends : List ℕ) (queries : List Float) 
 
   pub few-queries : length queries ≤ 770
   few-queries = omega (arith, few-query-points, length-threes queries)
+
+-- ---- triangles that are checked
+-- past the two tests of n the size is that of a list in threes
+pub checked-by-parts : (n : ℕ) (places : List ℕ) → 3 ≤ n → n ≤ 256 → partsRefused (length places) 3 254 ≡ checkedRefused n places
+unfolding partsRefused checkedRefused
+checked-by-parts n places h g = rw (le-ltb n 3 h, le-ltb 256 n g, length-threes places)
+
+-- what is known of triangles that are not refused
+pub record Checked (n : ℕ) (places : List ℕ) : Type 0 where
+  pub low : 3 ≤ n
+  pub high : n ≤ 256
+  pub threes : length places % 3 ≡ 0
+  pub few : length places / 3 ≤ 254
+  pub below : Each 0 (λ p. p < n) places
+
+pub check-known : (n : ℕ) (places : List ℕ) → checkRefusal n places ≡ 0 → Checked n places
+unfolding checkRefusal checkedRefused
+check-known n places e =
+    let one = row-zero 1 _ (checkedRefused n places) (omega arith) e in
+    let four = row-zero 4 [] (indexRefused n places) (omega arith) (one .1) in
+    let size = or-none (ltb n 3 || ltb 256 n) (not (eqb (length places % 3) 0) || ltb 254 (length (inThrees places))) (one .0) in
+    let corners = or-none (ltb n 3) (ltb 256 n) (size .0) in
+    let parts = or-none (not (eqb (length places % 3) 0)) (ltb 254 (length (inThrees places))) (size .1) in
+    record {
+      low = ltb-false n 3 (corners .0);
+      high = ltb-false 256 n (corners .1);
+      threes = eqb-true (length places % 3) 0 (not-false (eqb (length places % 3) 0) (parts .0));
+      few = omega (arith, ltb-false 254 (length (inThrees places)) (parts .1), length-threes places);
+      below = all-below n places (four .0);
+    }
+
+-- and where that is known nothing is refused
+pub check-passes : (n : ℕ) (places : List ℕ) → Checked n places → checkRefusal n places ≡ 0
+unfolding checkRefusal checkedRefused indexRefused firstRow
+check-passes n places k =
+    let parts : length (inThrees places) ≤ 254 = omega (arith, k .few, length-threes places) in
+    let below = none-each (notBelow n) 0 places .1 (record { holds = λ i h. lt-leb n _ (k .below .holds i h) }) in
+    rw (le-ltb n 3 (k .low), le-ltb 256 n (k .high), k .threes, le-ltb 254 (length (inThrees places)) parts, below)
 
 -- ---- a list with marks
 stray-no : (n c : ℕ) → not (eqb c faceEnd) && leb n c ≡ false → c ≢ faceEnd → c < n

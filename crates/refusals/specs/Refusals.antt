@@ -1,6 +1,6 @@
 -- Why a check refuses a public entry's input, 0 where none does. For a cell it is `refusalOf` of the crate cell; here stand lists of
--- points, the move to a local origin, what is asked of a cell's faces, triangles, turning the backward faces, `point_in_phed`, clipping,
--- the overlap and the report's query points.
+-- points, the move to a local origin, what is asked of a cell's faces, triangles, triangles that are checked, turning the backward faces,
+-- `point_in_phed`, clipping, the overlap and the report's query points.
 -- The refusal 6 of clipping and the overlaps, which is found on the way, is not among these.
 use mathlib.Core.Bool.{Bool, not, _&&_, _||_, cond}
 use mathlib.Core.List.{List, [], _∷_}
@@ -8,12 +8,13 @@ use Prim.Native.Nat.{ℕ, _-_, _%_}
 use lib.Dec.{leb, ltb, eqb}
 use lib.ListN.{length, getD}
 use lib.Ieee.{Float}
-use Rattle.places.specs.Limits.{mostMarkedCorners, mostQueries, mostPlanes, mostPlanePoints, mostWorkNumbers}
+use Rattle.places.specs.Limits.{mostMarkedCorners, mostQueries, mostPlanes, mostCheckedCorners, mostCheckedTriangles, mostPlanePoints}
+use Rattle.places.specs.Limits.{mostWorkNumbers}
 use Rattle.places.specs.Loops.{anyOf}
-use Rattle.places.specs.Stored.{inPairs}
+use Rattle.places.specs.Stored.{inThrees, inPairs}
 use Rattle.flat.specs.Points.{verticesOf}
 use Rattle.cell.specs.Faces.{facesOf}
-use Rattle.cell.specs.Refusals.{firstRow, pointsRefused, numberRefused, emptyRefused, refusalOf}
+use Rattle.cell.specs.Refusals.{firstRow, pointsRefused, numberRefused, indexRefused, emptyRefused, refusalOf}
 use Rattle.facing.specs.Refused.{reversalRefusal}
 use Rattle.inside.specs.Inside.{faceEnd}
 use Rattle.local.specs.Local.{moveRefused}
@@ -70,6 +71,16 @@ roomRefused face room = ltb room (length face - 2)
 unfoldable pub trianglesRefusal : List Float → List ℕ → List ℕ → ℕ → ℕ → ℕ
 trianglesRefusal coords corners ends k room =
     firstRefusal (faceRefusal coords corners ends k) (firstRow ((6, roomRefused (getD (facesOf corners ends) k []) room) ∷ []))
+
+-- 1 size, of triangles over the places of a face of n corners: n under 3 or over 256, places not in threes, or over 254 triangles
+unfoldable pub checkedRefused : ℕ → List ℕ → Bool
+checkedRefused n places =
+    (ltb n 3 || ltb mostCheckedCorners n)
+    || (not (eqb (length places % 3) 0) || ltb mostCheckedTriangles (length (inThrees places)))
+
+-- check_cut: 1 size, 4 index, a place that is not below n
+unfoldable pub checkRefusal : ℕ → List ℕ → ℕ
+checkRefusal n places = firstRow ((1, checkedRefused n places) ∷ (4, indexRefused n places) ∷ [])
 
 -- 4 index, in a list with marks: an entry that is not the mark and not below n
 abbrev pub strays : ℕ → ℕ → Bool

@@ -52,7 +52,7 @@ stated (r ∷ rs) = r .answer ∷ stated rs
 
 -- ---- the faces; all but `skew` lie at z = 0
 -- the letter L: (0,0), (2,0), (2,1), (1,1), (1,2), (0,2)
-abbrev letterL : List Float
+abbrev pub letterL : List Float
 letterL =
     level zero64 zero64 ++ level two64 zero64 ++ level two64 one64 ++ level one64 one64 ++ level one64 two64 ++ level zero64 two64
 

@@ -2,3 +2,4 @@ pub mod Table
 pub mod TurnFaces
 pub mod Local
 pub mod Area
+pub mod CheckCut

@@ -3,11 +3,11 @@
 use crate::calls::Calls;
 use crate::comparison::Comparison;
 use crate::{
-    Outcome, clip, compare_cells, count_and_seed, cut, floats, leaves, local, overlap, shapes,
-    short, turn_faces, turning,
+    Outcome, check_cut, clip, compare_cells, count_and_seed, cut, floats, leaves, local, overlap,
+    shapes, short, turn_faces, turning,
 };
 
-pub const COMPARISONS: [Comparison; 11] = [
+pub const COMPARISONS: [Comparison; 12] = [
     Comparison {
         name: "floats",
         what: "the leaves on f64 against the machine, over N random patterns and others",
@@ -31,6 +31,12 @@ pub const COMPARISONS: [Comparison; 11] = [
         what: "the cut of N random faces",
         count: 1_000_000,
         compare: cut::compare,
+    },
+    Comparison {
+        name: "check_cut",
+        what: "every short list of triangles and N random ones, against a second teller",
+        count: 1_000_000,
+        compare: check_cut::compare,
     },
     Comparison {
         name: "cells",

@@ -9,8 +9,9 @@ use crate::bench::Table;
 use crate::bench_lists::in_space;
 use crate::cells::{self, Cell};
 use crate::compare_cells::is_closed;
+use crate::cut_judge::Judge;
 use crate::limits::FACE_END;
-use crate::{faces, ours};
+use crate::{cut_lists, faces, ours};
 
 /// Corners of the faces that are cut.
 const FACE_SIZES: [usize; 3] = [4, 64, 256];
@@ -109,6 +110,7 @@ pub fn add_rows(table: &mut Table) {
     add_backward(table);
     add_planes(table);
     add_cuts(table);
+    add_checks(table);
     add_shapes(table);
 }
 
@@ -216,7 +218,8 @@ fn add_planes(table: &mut Table) {
     }
 }
 
-/// A face as the only one of a cell.
+/// A face as the only one of a cell. The Rust does not cut by place, so beside that stands our own
+/// cut by vertex.
 fn add_cuts(table: &mut Table) {
     for size in FACE_SIZES {
         let points = in_space(&faces::regular(size));
@@ -231,6 +234,51 @@ fn add_cuts(table: &mut Table) {
             || ours::triangles(black_box(&cell), 0, &mut out, &mut count),
             || rust::ear_clip_triangles(black_box(&points), &places),
         );
+    }
+    for size in FACE_SIZES {
+        let points = in_space(&faces::regular(size));
+        let corners: Vec<u32> = (0..size as u32).collect();
+        let cell = Cell::of_one_face(points.as_flattened(), &corners);
+        let [mut by_place, mut by_vertex] = [(); 2].map(|()| vec![[0; 3]; size - 2]);
+        let [mut count, mut other_count] = [[0]; 2];
+        table.add_beside(
+            "triangle_places",
+            size,
+            || ours::triangle_places(black_box(&cell), 0, &mut by_place, &mut count),
+            "triangles",
+            || ours::triangles(black_box(&cell), 0, &mut by_vertex, &mut other_count),
+        );
+        assert_eq!(
+            (by_place, count),
+            (by_vertex, other_count),
+            "both cut alike"
+        );
+    }
+}
+
+/// The Rust has no such check: its column is the second teller's, a plain count in a table. The
+/// cuts are a fan, where one place is in every triangle, and a strip, where each is in a few.
+fn add_checks(table: &mut Table) {
+    type Cut = fn(u32) -> Vec<[u32; 3]>;
+    let cuts: [(&str, Cut); 2] = [
+        ("check_cut (fan)", cut_lists::fan),
+        ("check_cut (strip)", cut_lists::strip),
+    ];
+    for (entry, cut) in cuts {
+        for size in FACE_SIZES {
+            let corners = size as u32;
+            let triangles = cut(corners);
+            let places = triangles.as_flattened();
+            let mut judge = Judge::default();
+            let mut yes = [0];
+            table.add_sized(
+                entry,
+                size,
+                || ours::check_cut(corners, black_box(places), &mut yes),
+                || judge.is_cut(corners, black_box(places)),
+            );
+            assert_eq!(judge.is_cut(corners, places), Ok(true));
+        }
     }
 }
 

@@ -238,6 +238,13 @@ impl Calls {
         self.faults.push(Fault { entry, what });
     }
 
+    /// Counts calls with one answer that were found right before.
+    pub fn held_before(&mut self, entry: &'static str, answer: u8, times: usize) {
+        if times > 0 {
+            *self.answers_of(entry).entry(answer).or_default() += times;
+        }
+    }
+
     /// Counts a call that gives a value and refuses nothing.
     pub fn gave<T: Given>(&mut self, entry: &'static str, found: T, wanted: T) {
         *self.answers_of(entry).entry(0).or_default() += 1;
@@ -261,12 +268,20 @@ impl Calls {
 
     /// Counts an input under a title by its kind.
     pub fn count(&mut self, title: &'static str, kind: impl Debug) {
+        self.count_times(title, kind, 1);
+    }
+
+    /// Counts so many inputs of one kind.
+    pub fn count_times(&mut self, title: &'static str, kind: impl Debug, times: usize) {
+        if times == 0 {
+            return;
+        }
         let place = self.kinds.iter().position(|tally| tally.title == title);
         let place = place.unwrap_or_else(|| {
             self.kinds.push(Tally::new(title));
             self.kinds.len() - 1
         });
-        self.kinds[place].add(kind);
+        self.kinds[place].add_times(kind, times);
     }
 
     /// The first call that departed.

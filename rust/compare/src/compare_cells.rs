@@ -157,7 +157,7 @@ fn survey(calls: &mut Calls, cell: &Cell, queries: &[f64], random: &mut Random) 
     });
 }
 
-/// The triangles of every face, and of a face that is not there.
+/// The triangles of every face, by vertex and by place, and of a face that is not there.
 fn triangles(calls: &mut Calls, cell: &Cell, random: &mut Random) {
     let faces = cell.ends.len() as u32;
     let asked = match refusals::of_cell(cell, false) {
@@ -166,7 +166,7 @@ fn triangles(calls: &mut Calls, cell: &Cell, random: &mut Random) {
     };
     let beyond = [faces + random.below(3) as u32, u32::MAX];
     for face in (0..asked).chain(beyond) {
-        compare_face(calls, cell, face, random, ours::triangles);
+        compare_face(calls, cell, face, random);
     }
 }
 

@@ -1,4 +1,4 @@
-//! `compare cut`: random faces, cut by the port and by the Rust.
+//! `compare cut`: random faces, cut by the port and by the Rust, by vertex and by place.
 
 use crate::calls::{Calls, unless_refused};
 use crate::cells::{Cell, as_usize};
@@ -20,7 +20,7 @@ pub fn compare(calls: &mut Calls, count: u64, seed: u64) -> Compared {
         calls.count("numbering", made.numbering);
         calls.count("corners", Size::of(&made.cell));
         ask(calls, &made.cell, &mut random, |calls, cell, random| {
-            compare_face(calls, cell, 0, random, ours::triangles);
+            compare_face(calls, cell, 0, random);
         })?;
     }
     Ok(())
@@ -65,25 +65,83 @@ enum Cut {
     Short,
 }
 
-/// Asks for the triangles of a face and for their count.
-pub fn compare_face(
+/// Asks for the triangles of a face and for their count, by vertex and by place. Looked up in the
+/// face, the Rust's places must be its vertices, so that ours are too where both are the Rust's.
+pub fn compare_face(calls: &mut Calls, cell: &Cell, face: u32, random: &mut Random) {
+    let by_vertex = by_vertex(cell, face);
+    let by_place = by_place(cell, face);
+    if let (Ok(triangles), Ok(places)) = (&by_vertex, &by_place) {
+        let corners = cell.face(face);
+        let is_full = triangles.len() == corners.len().saturating_sub(2);
+        calls.count("cuts", if is_full { Cut::Full } else { Cut::Short });
+        calls.expect(
+            looked_up(corners, places) == *triangles,
+            "triangle_places",
+            "are not the triangles where they are looked up in the face",
+        );
+    }
+    compare_cut(
+        calls,
+        "triangles",
+        by_vertex,
+        cell,
+        face,
+        random,
+        ours::triangles,
+    );
+    compare_cut(
+        calls,
+        "triangle_places",
+        by_place,
+        cell,
+        face,
+        random,
+        ours::triangle_places,
+    );
+}
+
+/// The triangles of a face by the Rust, or the refusal.
+fn by_vertex(cell: &Cell, face: u32) -> Result<Vec<[u32; 3]>, u8> {
+    unless_refused(refusals::of_face(cell, face), || {
+        triangles_by_the_rust(cell.points(), cell.face(face))
+    })
+}
+
+/// The same by place: the Rust cuts the face whose vertices are the points of the corners, in their
+/// order, and whose corners are 0, 1, 2 and so on.
+fn by_place(cell: &Cell, face: u32) -> Result<Vec<[u32; 3]>, u8> {
+    unless_refused(refusals::of_face(cell, face), || {
+        let outline = cell.outline(cell.face(face));
+        let places: Vec<u32> = (0..outline.len() as u32).collect();
+        triangles_by_the_rust(&outline, &places)
+    })
+}
+
+/// The vertices at the places of triangles.
+fn looked_up(corners: &[u32], places: &[[u32; 3]]) -> Vec<[u32; 3]> {
+    let vertex = |place: u32| corners[place as usize];
+    places.iter().map(|places| places.map(vertex)).collect()
+}
+
+/// Asks an entry that cuts a face for the triangles and for their count.
+fn compare_cut(
     calls: &mut Calls,
+    entry: &'static str,
+    triangles: Result<Vec<[u32; 3]>, u8>,
     cell: &Cell,
     face: u32,
     random: &mut Random,
     cut: impl Fn(&Cell, u32, &mut [[u32; 3]], &mut [usize]) -> u8,
 ) {
-    let mut room = 3;
-    let expected = unless_refused(refusals::of_face(cell, face), || {
-        let corners = cell.face(face);
-        room = corners.len().saturating_sub(2);
-        let triangles = triangles_by_the_rust(cell.points(), corners);
-        let is_full = triangles.len() == room;
-        calls.count("cuts", if is_full { Cut::Full } else { Cut::Short });
+    let room = match triangles {
+        Ok(_) => cell.face(face).len().saturating_sub(2),
+        Err(_) => 3,
+    };
+    let expected = triangles.map(|triangles| {
         let count = vec![triangles.len()];
         (triangles, count)
     });
-    calls.asked_for_two("triangles", [room, 1], expected, random, |out, count| {
+    calls.asked_for_two(entry, [room, 1], expected, random, |out, count| {
         cut(cell, face, out, count)
     });
 }
@@ -133,21 +191,31 @@ mod tests {
         faces::any_with_a_vertex(random, 64).cell
     }
 
+    fn compare_vertices(
+        calls: &mut Calls,
+        cell: &Cell,
+        random: &mut Random,
+        cut: impl Fn(&Cell, u32, &mut [[u32; 3]], &mut [usize]) -> u8,
+    ) {
+        compare_cut(calls, "triangles", by_vertex(cell, 0), cell, 0, random, cut);
+    }
+
     #[test]
     fn ours_cuts_the_square_as_the_rust_does() {
         let coords = [0.0, 0.0, 0.0, 1.0, 0.0, 0.0, 1.0, 1.0, 0.0, 0.0, 1.0, 0.0];
         let square = Cell::of_one_face(&coords, &[0, 3, 2, 1]);
         let by_the_rust = triangles_by_the_rust(square.points(), &square.corners);
         assert_eq!(by_the_rust, [[1, 0, 3], [3, 2, 1]]);
+        assert_eq!(by_place(&square, 0), Ok(vec![[3, 0, 1], [1, 2, 3]]));
         let mut calls = Calls::default();
-        compare_face(&mut calls, &square, 0, &mut Random::new(1), ours::triangles);
+        compare_face(&mut calls, &square, 0, &mut Random::new(1));
         assert!(calls.first_fault().is_none());
     }
 
     #[test]
     fn a_fan_is_found_and_shrinks_to_four_corners() {
         let small = smallest_of(any, |calls, cell, random| {
-            compare_face(calls, cell, 0, random, fan);
+            compare_vertices(calls, cell, random, fan);
         });
         assert_eq!(small.corners.len(), 4);
     }
@@ -155,8 +223,26 @@ mod tests {
     #[test]
     fn a_written_place_is_found_and_shrinks_to_no_corner() {
         let small = smallest_of(any, |calls, cell, random| {
-            compare_face(calls, cell, 0, random, marks_the_next_place);
+            compare_vertices(calls, cell, random, marks_the_next_place);
         });
         assert!(small.corners.is_empty());
+    }
+
+    /// The slip 'vertex numbers in the place of places'.
+    #[test]
+    fn vertices_taken_for_places_are_found_and_shrink_to_one_vertex() {
+        let small = smallest_of(any, |calls, cell, random| {
+            let places = by_place(cell, 0);
+            compare_cut(
+                calls,
+                "triangle_places",
+                places,
+                cell,
+                0,
+                random,
+                ours::triangles,
+            );
+        });
+        assert_eq!((small.corners, small.coords.len()), (vec![0; 3], 3));
     }
 }

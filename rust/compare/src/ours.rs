@@ -106,6 +106,8 @@ entries! {
     contains(cell: Cell, query: Point, out: &mut [usize]);
     point_in_phed(coords: &[f64], list: &[u32], query: Point, out: &mut [usize]);
     triangles(cell: Cell, face: u32, out: &mut [[u32; 3]], count: &mut [usize]);
+    triangle_places(cell: Cell, face: u32, out: &mut [[u32; 3]], count: &mut [usize]);
+    check_cut(corners: u32, places: &[u32], out: &mut [usize]);
     survey(cell: Cell, queries: &[f64], counts: &mut [usize], volume: &mut [f64]);
     describe(cell: Cell, shape: u8, out: &mut [usize]);
     is_convex(cell: Cell, shape: u8, out: &mut [usize]);

@@ -3,10 +3,13 @@
 
 use crate::calls::Calls;
 use crate::cells::{Cell, unit_cube};
+use crate::check_cut;
 use crate::clip::{by_edges, by_planes};
 use crate::clips::Case;
 use crate::compare_cells::{Question, compare_question};
 use crate::comparison::{Compared, ask};
+use crate::cut_judge::Judge;
+use crate::cut_lists::Sent;
 use crate::leaves::{LEAVES, SPECIAL};
 use crate::limits::{FACE_END, LARGEST};
 use crate::lists::{Points, compare_in_space, compare_in_the_plane};
@@ -61,6 +64,7 @@ pub fn compare(calls: &mut Calls, times: u64, seed: u64) -> Compared {
         coordinates,
         queries,
         lists_with_marks,
+        triangles_to_check,
         solids,
         faces_by_planes,
         planes_of_any_length,
@@ -262,6 +266,20 @@ fn lists_with_marks(calls: &mut Calls, random: &mut Random) -> Compared {
             queries: QUERIES.to_vec(),
         };
         ask(calls, &marked, random, marked::compare)?;
+    }
+    Ok(())
+}
+
+/// Up to seven places, in threes or not, there or not, for faces of few corners, of as many as may
+/// be, and of numbers of corners that are refused.
+fn triangles_to_check(calls: &mut Calls, random: &mut Random) -> Compared {
+    let judge = &mut Judge::default();
+    for places in lists_up_to(7, &[0, 1, 2, 3, u32::MAX]) {
+        for corners in [0, 1, 2, 3, 4, 5, 256, 257, u32::MAX] {
+            let places = places.clone();
+            let sent = Sent { corners, places };
+            check_cut::ask_about(calls, judge, &["triangles to check"], sent, random)?;
+        }
     }
     Ok(())
 }

@@ -18,7 +18,11 @@ impl Tally {
     }
 
     pub fn add(&mut self, kind: impl Debug) {
-        *self.counts.entry(format!("{kind:?}")).or_default() += 1;
+        self.add_times(kind, 1);
+    }
+
+    pub fn add_times(&mut self, kind: impl Debug, times: usize) {
+        *self.counts.entry(format!("{kind:?}")).or_default() += times;
     }
 
     pub fn print(&self) {

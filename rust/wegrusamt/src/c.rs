@@ -61,6 +61,9 @@ entries! {
     wegrusamt_triangles triangles(
         coords: f64, corners: u32, ends: u32; face: u32; out: [u32; 3], count: usize
     );
+    wegrusamt_triangle_places triangle_places(
+        coords: f64, corners: u32, ends: u32; face: u32; out: [u32; 3], count: usize
+    );
     wegrusamt_survey survey(
         coords: f64, corners: u32, ends: u32, queries: f64; ; counts: usize, volume: f64
     );
@@ -159,6 +162,29 @@ pub fn turn_faces(coords: &[f64], corners: &mut [u32], ends: &[u32], out: &mut [
             corners.len(),
             ends.as_ptr(),
             ends.len(),
+            out.as_mut_ptr(),
+            out.len(),
+        )
+    }
+}
+
+/// Checks triangles, whose places stand behind the number of corners.
+pub fn check_cut(n: u32, places: &[u32], out: &mut [usize]) -> u8 {
+    unsafe extern "C" {
+        fn wegrusamt_check_cut(
+            n: u32,
+            places: *const u32,
+            places_len: usize,
+            out: *mut usize,
+            out_len: usize,
+        ) -> u8;
+    }
+    // SAFETY: see the head of this file.
+    unsafe {
+        wegrusamt_check_cut(
+            n,
+            places.as_ptr(),
+            places.len(),
             out.as_mut_ptr(),
             out.len(),
         )

@@ -234,11 +234,36 @@ impl<'a> Cell<'a> {
     /// The triangles into which a face is cut, as numbers of points: n - 2 of them for n >= 3
     /// corners, or fewer where the cut stops short.
     pub fn triangles(&self, face: usize) -> Result<Vec<[u32; 3]>, Refusal> {
+        self.cut_by(c::triangles, face)
+    }
+
+    /// The same triangles by place: each number is the corner's place in the face's own corners,
+    /// from 0 to n - 1, and not the number of its point. Looked up there they are those of
+    /// [`Cell::triangles`]. [`check_cut`](crate::check_cut) takes triangles by place.
+    ///
+    /// ```
+    /// use wegrusamt::{Cell, check_cut};
+    ///
+    /// let points = [[0.0; 3], [1.0, 0.0, 0.0], [1.0, 1.0, 0.0], [0.0, 1.0, 0.0]];
+    /// let square = Cell::new(&points, &[3, 2, 1, 0], &[4]);
+    ///
+    /// let places = square.triangle_places(0)?;
+    /// assert_eq!(places, [[3, 0, 1], [1, 2, 3]]);
+    /// assert_eq!(square.triangles(0)?, [[0, 3, 2], [2, 1, 0]]);
+    /// assert!(check_cut(4, &places)?);
+    /// # Ok::<(), wegrusamt::Refusal>(())
+    /// ```
+    pub fn triangle_places(&self, face: usize) -> Result<Vec<[u32; 3]>, Refusal> {
+        self.cut_by(c::triangle_places, face)
+    }
+
+    /// What an entry that cuts a face writes, in a list that has room for it.
+    fn cut_by(&self, cut: Cut, face: usize) -> Result<Vec<[u32; 3]>, Refusal> {
         // Where the ends are bad this is not the face, but then the cell is refused.
         let most = self.faces().nth(face).map_or(0, <[u32]>::len);
         let mut out = vec![[0; 3]; most.saturating_sub(2)];
         let mut count = [0];
-        let number = c::triangles(
+        let number = cut(
             self.coords(),
             self.corners,
             self.ends,
@@ -430,6 +455,9 @@ impl<'a> Cell<'a> {
         self.points.as_flattened()
     }
 }
+
+/// An entry that cuts a face: the lists of the cell, the face, then the triangles and their count.
+type Cut = fn(&[f64], &[u32], &[u32], u32, &mut [[u32; 3]], &mut [usize]) -> u8;
 
 /// A face's number as the C names take it. One that does not fit becomes the largest, which is
 /// above every face count and so is refused as [`Refusal::Index`], in its turn.

@@ -1,7 +1,7 @@
 //! Cells with flat faces, measured by functions that are proved: volume, centroids, closedness,
-//! containment, convexity, turning of faces, planes, clipping, overlap and the move to a local
-//! origin. Each answers what docs/SCOPE.md of Wegrusamt says, bit for bit, or refuses with a
-//! [`Refusal`]; each ends on every input and keeps nothing.
+//! containment, convexity, cuts of faces and the check of cuts, turning of faces, planes, clipping,
+//! overlap and the move to a local origin. Each answers what docs/SCOPE.md of Wegrusamt says, bit
+//! for bit, or refuses with a [`Refusal`]; each ends on every input and keeps nothing.
 //!
 //! ```
 //! use wegrusamt::CellBuf;
@@ -27,6 +27,7 @@
 mod c;
 mod cell;
 mod cell_buf;
+mod cut;
 pub mod floats;
 pub mod leaves;
 pub mod planar;
@@ -38,5 +39,6 @@ mod work;
 pub use cell::{Cell, Description, FACE_END, Plane, Shape, Survey};
 pub use cell::{into_ccw, point_in_phed, turn_faces};
 pub use cell_buf::CellBuf;
+pub use cut::check_cut;
 pub use refusal::Refusal;
 pub use work::WORK_NUMBERS;

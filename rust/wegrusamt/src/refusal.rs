@@ -19,13 +19,14 @@ use std::fmt;
 pub enum Refusal {
     /// 1: 0 or over 256 vertices; over 256 faces, 2,048 corners, 256 query points, 256 planes or
     /// 512 points of the plane; over 2,304 entries of a list with marks; a work list of over 3,072
-    /// numbers.
+    /// numbers; a face to check of under 3 or over 256 corners, or over 254 triangles of it.
     Size = 1,
     /// 2: a coordinate or query value is NaN, infinite or above 2^40 in magnitude.
     Number = 2,
     /// 3: the ends fall, or the last is not the corner count.
     Ends = 3,
-    /// 4: a corner is not below the vertex count, or a face number not below the face count.
+    /// 4: a corner is not below the vertex count, a face number not below the face count, or a
+    /// place of a face to check not below its corner count.
     Index = 4,
     /// 5: a face has no corners. Only planes, outward turning and intersection refuse it.
     EmptyFace = 5,

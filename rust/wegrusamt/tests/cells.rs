@@ -1,8 +1,8 @@
 //! The rows of SCOPE 16, the turning of backward faces (SCOPE 14), the move to a local origin
-//! (SCOPE 19) and every refusal, asked through the crate.
+//! (SCOPE 19), cuts by place and the check of cuts, and every refusal, asked through the crate.
 
 use wegrusamt::{Cell, CellBuf, Plane, Refusal, Shape, floats, into_ccw, planar, point_in_phed};
-use wegrusamt::{FACE_END, WORK_NUMBERS, leaves, shapes, space, turn_faces};
+use wegrusamt::{FACE_END, WORK_NUMBERS, check_cut, leaves, shapes, space, turn_faces};
 
 const CUBE: [[f64; 3]; 8] = [
     [0.0, 0.0, 0.0],
@@ -47,6 +47,7 @@ fn refusals(cell: &Cell<'_>) -> Vec<Option<Refusal>> {
         cell.contains([0.0; 3]).err(),
         cell.is_convex(Shape::Unknown).err(),
         cell.triangles(0).err(),
+        cell.triangle_places(0).err(),
         cell.survey(&[]).err(),
         cell.plane_of_face(0).err(),
         cell.clip_face(0, &[], 0.0).err(),
@@ -67,7 +68,7 @@ fn all_refuse(cell: &Cell<'_>, refusal: Refusal) {
 fn the_cube_is_measured() {
     let buf = cube_at(0.0);
     let cube = buf.as_cell();
-    assert_eq!(refusals(&cube), [None; 16]);
+    assert_eq!(refusals(&cube), [None; 17]);
     assert_eq!(cube.volume(), Ok(1.0));
     assert_eq!(cube.centroid(), Ok([0.5; 3]));
     assert_eq!(cube.geometric_centroid(), Ok([0.5; 3]));
@@ -75,6 +76,7 @@ fn the_cube_is_measured() {
     assert_eq!(cube.scale(), Ok(1.0));
     assert_eq!(cube.closed(), Ok(true));
     assert_eq!(cube.triangles(0), Ok(vec![[1, 0, 3], [3, 2, 1]]));
+    assert_eq!(cube.triangle_places(0), Ok(vec![[3, 0, 1], [1, 2, 3]]));
     assert_eq!(cube.contains([0.0, 0.5, 0.5]), Ok(true));
     assert_eq!(cube.contains([1.0, 0.5, 0.5]), Ok(false));
     assert_eq!(cube.contains([0.5, 1.0, 0.5]), Ok(false));
@@ -103,6 +105,104 @@ fn a_cut_that_stops_short_has_fewer_triangles() {
     let triangles = cell.as_cell().triangles(0).unwrap();
     assert_eq!(triangles, [[6, 0, 1], [6, 1, 2], [2, 3, 4]]);
     assert_eq!(cell.as_cell().survey(&[]).unwrap().short, 1);
+    // A cut that stops short is not a whole one.
+    let places = cell.as_cell().triangle_places(0).unwrap();
+    assert_eq!(places, triangles);
+    assert_eq!(check_cut(7, &places), Ok(false));
+}
+
+/// The triangles by place, looked up in the face.
+fn looked_up(face: &[u32], places: &[[u32; 3]]) -> Vec<[u32; 3]> {
+    let vertex = |place: u32| face[place as usize];
+    places.iter().map(|places| places.map(vertex)).collect()
+}
+
+#[test]
+fn a_cut_is_told_by_place() {
+    let buf = cube_at(0.0);
+    let cube = buf.as_cell();
+    for (number, face) in cube.faces().enumerate() {
+        let places = cube.triangle_places(number).unwrap();
+        assert_eq!(looked_up(face, &places), cube.triangles(number).unwrap());
+        assert_eq!(check_cut(face.len(), &places), Ok(true));
+    }
+    // Two corners of a face share a vertex, and each has its own place.
+    let face = [0, 1, 2, 0, 3];
+    let buf = CellBuf::from_faces(CUBE, [face]);
+    let places = buf.as_cell().triangle_places(0).unwrap();
+    let triangles = buf.as_cell().triangles(0).unwrap();
+    assert_eq!(looked_up(&face, &places), triangles);
+    assert_eq!(check_cut(5, &places), Ok(true));
+    assert_eq!(check_cut(5, &triangles), Ok(false));
+    // Faces under 3 corners have no triangle.
+    let thin: [&[u32]; 3] = [&[], &[5], &[1, 0]];
+    let buf = CellBuf::from_faces(CUBE, thin);
+    for face in 0..3 {
+        assert_eq!(buf.as_cell().triangle_places(face), Ok(vec![]));
+    }
+}
+
+/// A face of so many corners, cut from its corner 0 to all others.
+fn fan(corners: u32) -> Vec<[u32; 3]> {
+    (2..corners).map(|place| [0, place - 1, place]).collect()
+}
+
+#[test]
+fn cuts_are_checked() {
+    for corners in [3, 4, 5, 64, 256] {
+        let cut = fan(corners);
+        let corners = corners as usize;
+        assert_eq!(check_cut(corners, &cut), Ok(true), "{corners}");
+        // In any order, and from any place on.
+        let rotated = cut.iter().rev().map(|&[a, b, c]| [b, c, a]);
+        let rotated: Vec<[u32; 3]> = rotated.collect();
+        assert_eq!(check_cut(corners, &rotated), Ok(true), "{corners}");
+        // A triangle turned round, missing, doubled.
+        let mut wrong = cut.clone();
+        wrong[0].reverse();
+        assert_eq!(check_cut(corners, &wrong), Ok(false), "{corners}");
+        assert_eq!(check_cut(corners, &cut[1..]), Ok(false), "{corners}");
+        if corners > 3 {
+            wrong[0] = cut[1];
+            assert_eq!(check_cut(corners, &wrong), Ok(false), "{corners}");
+        }
+        if corners < 256 {
+            wrong.push(cut[0]);
+            assert_eq!(check_cut(corners, &wrong), Ok(false), "{corners}");
+            // A face of a corner more has the same places, and another cut.
+            assert_eq!(check_cut(corners + 1, &cut), Ok(false), "{corners}");
+        }
+    }
+    assert_eq!(check_cut(3, &[]), Ok(false));
+    assert_eq!(check_cut(3, &[[0, 0, 0]]), Ok(false));
+    assert_eq!(check_cut(3, &[[0, 2, 1]]), Ok(false));
+    // Every side is right, and there are two triangles too many.
+    let beside = [&fan(6)[..], &[[1, 3, 5], [5, 3, 1]]].concat();
+    assert_eq!(check_cut(6, &beside), Ok(false));
+}
+
+#[test]
+fn cuts_that_cannot_be_checked_are_refused() {
+    for corners in [0, 1, 2, 257, 258, u32::MAX as usize, usize::MAX] {
+        assert_eq!(check_cut(corners, &[]), Err(Refusal::Size), "{corners}");
+        assert_eq!(
+            check_cut(corners, &[[9, 9, u32::MAX]]),
+            Err(Refusal::Size),
+            "{corners}"
+        );
+    }
+    // A wrapped number would be a face of three corners.
+    assert_eq!(check_cut((1 << 32) + 3, &fan(3)), Err(Refusal::Size));
+    let many = [[0, 1, 2]; 255];
+    assert_eq!(check_cut(256, &many), Err(Refusal::Size));
+    assert_eq!(check_cut(256, &many[1..]), Ok(false));
+    let mut stray = many;
+    stray[254][2] = 3;
+    assert_eq!(check_cut(3, &stray), Err(Refusal::Size));
+    assert_eq!(check_cut(3, &stray[1..]), Err(Refusal::Index));
+    for place in [3, 4, 256, u32::MAX] {
+        assert_eq!(check_cut(3, &[[0, 1, place]]), Err(Refusal::Index));
+    }
 }
 
 #[test]
@@ -341,11 +441,13 @@ fn numbers_out_of_range_are_refused() {
     let cube = buf.as_cell();
     for face in [6, u32::MAX as usize, usize::MAX] {
         assert_eq!(cube.triangles(face), Err(Refusal::Index));
+        assert_eq!(cube.triangle_places(face), Err(Refusal::Index));
         assert_eq!(cube.plane_of_face(face), Err(Refusal::Index));
         assert_eq!(cube.clip_face(face, &[], 0.0), Err(Refusal::Index));
     }
     // A wrapped number would name the first face.
     assert_eq!(cube.triangles(1 << 32), Err(Refusal::Index));
+    assert_eq!(cube.triangle_places(1 << 32), Err(Refusal::Index));
 }
 
 #[test]

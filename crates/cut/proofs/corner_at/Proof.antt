@@ -3,7 +3,7 @@ use mathlib.Core.Path.{sym}
 use native.Mathlib.Omega.{arith}
 use lib.ListN.{getD}
 use Rattle.places.proofs.Lists.{map-at}
-use Rattle.cut.specs.Steps.{ringAt}
+use Rattle.cut.specs.Cut.{ringAt}
 use borrow.Author.Needs.{needs}
 use Rattle.cut.proofs.corner_at.Statement.{statement}
 use Rattle.cut.proofs.corner_at.Tie as tie

@@ -1,6 +1,7 @@
 -- `abi::cells::wegrusamt_triangles` meets its contract: without a place for the count nothing is written, and else the entry writes the
 -- triangles and the count is put beside them.
 use native.Mathlib.Omega.{arith}
+use Rattle.geometry.specs.Cells.{trianglesAnswer}
 use Rattle.abi.proofs.Told.{triangles-short, triangles-long}
 use borrow.Author.Needs.{needs}
 use Rattle.abi.proofs.cells.wegrusamt_triangles.Statement.{statement}
@@ -11,8 +12,8 @@ no-place c =
     let start : tie.Start = search in
     let args = start .args in
     let at : tie.Then1 = search in
-    triangles-short (args .coords .now) (args .corners .now) (args .ends .now) (args .face) (args .out .now) (args .count .now)
-    (at .if1 .taken) (c .uncounted .ensures)
+    let answer = trianglesAnswer (args .coords .now) (args .corners .now) (args .ends .now) (args .face) in
+    triangles-short answer (args .out .now) (args .count .now) (at .if1 .taken) (c .uncounted .ensures)
 
 is-told : tie.Need-returns-2
 is-told c =
@@ -21,8 +22,9 @@ is-told c =
     let at : tie.Else1 = search in
     let made : tie.After-triangles = search in
     let put : tie.After-put-count = search in
-    triangles-long (args .coords .now) (args .corners .now) (args .ends .now) (args .face) (args .out .now) (args .count .now)
-    (omega (arith, at .if1 .left)) (made .triangles .ensures) (put .put-count .ensures)
+    let answer = trianglesAnswer (args .coords .now) (args .corners .now) (args .ends .now) (args .face) in
+    triangles-long answer (args .out .now) (args .count .now) (omega (arith, at .if1 .left)) (made .triangles .ensures)
+    (put .put-count .ensures)
 
 pub wegrusamt-triangles-spec : {M : Type 1} → statement M
 wegrusamt-triangles-spec =

@@ -1,0 +1,10 @@
+pub mod Rings
+pub mod Test
+pub mod Pairs
+pub mod Accepted
+pub mod Corners
+pub mod Chains
+pub mod Marks
+pub mod Places
+pub mod Same
+pub mod Answers

@@ -1,0 +1,2 @@
+pub mod CutCheck
+pub mod Steps

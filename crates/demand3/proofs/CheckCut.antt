@@ -1,0 +1,144 @@
+-- Request 9 holds: our own cut by place is a cut (OwnCut.antt), it passes the checks, and the check says yes exactly for cuts; whatever is
+-- a cut has the sides of the face, a side and its back taken off, and so the face's doubled area vector.
+use mathlib.Core.Path.{_≡_, refl, sym, _∙_, ap}
+use mathlib.Core.Logic.{_↔_}
+use mathlib.Core.Bool.{Bool, true, false, cond}
+use mathlib.Core.List.{List, [], _∷_, _++_, map}
+use Prim.Native.Nat.{ℕ, _+_, _-_, _<_, _≤_}
+use native.Mathlib.Omega.{arith}
+use lib.Dec.{eqb}
+use lib.ListN.{length, getD, take, drop}
+use Rattle.places.specs.Lists.{Each}
+use Rattle.places.specs.Ring.{walk, placesOf}
+use Rattle.places.specs.Stored.{inThrees, joined}
+use Rattle.places.proofs.Lists.{each-nil, each-append, each-head, each-tail}
+use Rattle.places.proofs.Rings.{length-places, place-at}
+use Rattle.places.proofs.Stored.{threes-joined, length-joined}
+use Rattle.exact.specs.Space.{V3, vectorSum, cross, area, areas}
+use Rattle.exact.proofs.Volume.{Three}
+use Rattle.flat.specs.Points.{Point, verticesOf, cornersOf}
+use Rattle.cut.specs.Cut.{cutByPlace, ringAt}
+use Rattle.cut.proofs.Facts.{cut-room, cut-threes, cut-each}
+use Rattle.cut.proofs.ByPlace.{places-ring, by-place-long, by-place-left}
+use Rattle.cut_check.specs.CutCheck.{IsCut}
+use Rattle.cut_check.proofs.Accepted.{accepted-area}
+use Rattle.refusals.specs.Refusals.{trianglesRefusal}
+use Rattle.refusals.proofs.Refusals.{Checked, check-passes}
+use Rattle.geometry.specs.declared.Truth.{Truth}
+use Rattle.geometry.specs.declared.Count.{Count}
+use Rattle.geometry.specs.Cells.{faceNumbered, inFront, trianglePlacesAnswer}
+use Rattle.geometry.specs.CheckCut.{checkCutAnswer, YesForCuts}
+use Rattle.geometry.proofs.CheckCut.{yes-for-cuts}
+use Rattle.demand3.specs.Demand3.{Full, placeOf}
+use Rattle.demand3.specs.CheckCut.{OwnCut, OwnEntry, AcceptedArea, AcceptedFace}
+use Rattle.demand3.proofs.Demand3.{full-left}
+use Rattle.demand3.proofs.OwnCut.{own-cut}
+
+-- the check's answer as an equivalence
+yes-is : (n : ℕ) (places : List ℕ) → YesForCuts n places (checkCutAnswer n places)
+yes-is n places = yes-for-cuts n places refl
+
+-- ---- our own cut passes the checks
+each-joined : {P : ℕ → Type 0} (ts : List (List ℕ)) → Each [] (Each 0 P) ts → Each 0 P (joined ts)
+unfolding joined
+each-joined [] e = each-nil
+each-joined (t ∷ ts) e = each-append t (joined ts) (each-head e) (each-joined ts (each-tail e))
+
+module _ (vs : List Point) (face : List ℕ) (low : 3 ≤ length face) (high : length face ≤ 256) where
+  abbrev ours : List (List ℕ)
+  ours = cutByPlace vs face .triangles
+
+  our-threes : Each [] Three ours
+  unfolding cutByPlace
+  our-threes = cut-threes (cornersOf vs face) (placesOf (length face))
+
+  our-places : Each [] (Each 0 (λ p. p < length face)) ours
+  unfolding cutByPlace
+  our-places =
+      let many = length-places (length face) in
+      cut-each (cornersOf vs face) (placesOf (length face))
+      (record { holds = λ k h. rw (place-at (length face) k (omega arith)) (omega arith) })
+
+  our-room : length ours ≤ length face - 2
+  unfolding cutByPlace
+  our-room = omega (arith, cut-room (cornersOf vs face) (placesOf (length face)), length-places (length face))
+
+  our-list : inThrees (joined ours) ≡ ours
+  our-list = threes-joined ours our-threes
+
+  passes : Checked (length face) (joined ours)
+  passes =
+      let long = length-joined ours our-threes in
+      record { low = low; high = high; threes = omega arith; few = omega (arith, our-room); below = each-joined ours our-places }
+
+  ours-is-cut : Full vs face → IsCut (length face) ours
+  unfolding cutByPlace
+  ours-is-cut f = own-cut (cornersOf vs face) (length face) low (by-place-left vs face (full-left vs face f))
+
+  accepted-is-full : (checkCutAnswer (length face) (joined ours) ≡ Truth.Is true) ↔ Full vs face
+  accepted-is-full =
+      let yes = yes-is (length face) (joined ours) in (
+        λ e _. omega (arith, (rw our-list at (yes .0 e .1)) .number, by-place-long vs face),
+        λ f. yes .1 (check-passes (length face) (joined ours) passes, rw our-list (ours-is-cut f)),
+      )
+
+pub own-cut-accepted : OwnCut
+own-cut-accepted vs face low high = accepted-is-full vs face low high
+
+-- ---- the same of the two entries
+-- what is written where a count is answered
+written-is : (b : Bool) (why : ℕ) (out ts after : List (List ℕ)) (m : ℕ)
+    → (Count.Is m, after) ≡ cond b (inFront out ts) (Count.Refused why, out) → (m ≡ length ts) × (after ≡ ts ++ drop (length ts) out)
+written-is true why out ts after m e =
+    let count : Count.Is m ≡ Count.Is (length ts) = ap (λ (x : Count × List (List ℕ)). x .0) e in
+    (cc, ap (λ (x : Count × List (List ℕ)). x .1) e)
+written-is false why out ts after m e =
+    let count : Count.Is m ≡ Count.Refused why = ap (λ (x : Count × List (List ℕ)). x .0) e in
+    absurd (let z : _≡_ {A = ℕ} 0 1 = cc in omega arith)
+
+take-front : {A : Type 0} (xs ys : List A) → take (length xs) (xs ++ ys) ≡ xs
+take-front [] ys = refl
+take-front (x ∷ xs) ys = ap (λ l. x ∷ l) (take-front xs ys)
+
+pub own-entry : OwnEntry
+unfolding trianglePlacesAnswer
+own-entry coords corners ends k out after m e low high =
+    let vs = verticesOf coords in
+    let face = faceNumbered corners ends k in
+    let ts = cutByPlace vs face .triangles in
+    let w = written-is (eqb (trianglesRefusal coords corners ends k (length out)) 0) _ out ts after m e in
+    let front : take m after ≡ ts = rw (w .0, w .1) (take-front ts (drop (length ts) out)) in
+    let full = accepted-is-full vs face low high in
+    let many = by-place-long vs face in
+    rw front (λ y. omega (arith, w .0, full .0 y low), λ n. full .1 (λ _. omega (arith, w .0)))
+
+-- ---- what is accepted has the face's area
+pub accepted-has-area : AcceptedArea
+accepted-has-area n places e = accepted-area n (inThrees places) (yes-is n places .0 e .1)
+
+-- places looked up in a face are as far apart as the vertices that stand there
+module _ (at : ℕ → V3) (face : List ℕ) where
+  abbrev look : ℕ → ℕ
+  look k = getD face k 0
+
+  walk-looked : (a : ℕ) (l : List ℕ) (z : ℕ)
+      → map (λ e. cross (at (look (e .0))) (at (look (e .1)))) (walk a l z)
+      ≡ map (λ e. cross (at (e .0)) (at (e .1))) (walk (look a) (map look l) (look z))
+  walk-looked a [] z = refl
+  walk-looked a (b ∷ l) z = ap (λ x. cross (at (look a)) (at (look b)) ∷ x) (walk-looked b l z)
+
+  area-looked : (ring : List ℕ) → area (λ k. at (look k)) ring ≡ area at (ringAt face ring)
+  unfolding area ringAt
+  area-looked [] = refl
+  area-looked (a ∷ l) = ap vectorSum (walk-looked a l a)
+
+  areas-looked : (rs : List (List ℕ)) → areas (λ k. at (look k)) rs ≡ areas at (map (ringAt face) rs)
+  unfolding areas
+  areas-looked [] = refl
+  areas-looked (r ∷ rs) = rw (area-looked r, areas-looked rs)
+
+pub accepted-face : AcceptedFace
+accepted-face vs face places e =
+    let at = placeOf vs in
+    sym (areas-looked at face (inThrees places)) ∙ accepted-has-area (length face) places e (λ k. at (getD face k 0))
+    ∙ area-looked at face (placesOf (length face)) ∙ ap (area at) (places-ring vs face)

@@ -1,0 +1,60 @@
+-- What `check_cut` answers is yes exactly for a cut, since the test of the three sentences is; and `triangle_places` answers the count of
+-- `triangles`, since the cut by place is the one cut.
+use mathlib.Core.Path.{_≡_, refl, sym, _∙_, ap}
+use mathlib.Core.Bool.{Bool, true, false, cond}
+use mathlib.Core.List.{List}
+use Prim.Native.Nat.{ℕ}
+use lib.Dec.{eqb}
+use lib.ListN.{length}
+use lib.Ieee.{Float}
+use native.Mathlib.Omega.{arith}
+use borrow.Author.Tests.{eqb-true}
+use Rattle.places.specs.Stored.{inThrees}
+use Rattle.flat.specs.Points.{verticesOf}
+use Rattle.cut.proofs.ByPlace.{by-place-long}
+use Rattle.cut_check.specs.CutCheck.{IsCut, isCutOf}
+use Rattle.cut_check.proofs.Test.{cut-test}
+use Rattle.refusals.specs.Refusals.{trianglesRefusal, checkRefusal}
+use Rattle.geometry.specs.declared.Truth.{Truth}
+use Rattle.geometry.specs.declared.Count.{Count}
+use Rattle.geometry.specs.Cells.{faceNumbered, trianglesAnswer, trianglePlacesAnswer}
+use Rattle.geometry.specs.CheckCut.{checkCutAnswer, YesForCuts}
+use Rattle.geometry.proofs.Answers.{passed}
+
+is-true : (a b : Bool) → Truth.Is a ≡ Truth.Is b → a ≡ b
+is-true a b e = cc
+
+not-refused : (why : ℕ) (b : Bool) → Truth.Refused why ≡ Truth.Is b → ⊥
+not-refused why b e = let z : _≡_ {A = ℕ} 0 1 = cc in absurd (omega arith)
+
+-- past the check the answer is the room's
+pub tested : (n : ℕ) (places : List ℕ) {why : ℕ} {b : Bool} → why ≡ checkRefusal n places → why ≡ 0 → b ≡ isCutOf n (inThrees places)
+    → Truth.Is b ≡ checkCutAnswer n places
+unfolding checkCutAnswer
+tested n places found z e = passed found _ z (ap Truth.Is e)
+
+pub yes-for-cuts : (n : ℕ) (places : List ℕ) {r : Truth} → r ≡ checkCutAnswer n places → YesForCuts n places r
+unfolding checkCutAnswer
+yes-for-cuts n places {r} e = (λ t. go (eqb (checkRefusal n places) 0) refl (sym e ∙ t), back)
+  where
+    go : (b : Bool) → eqb (checkRefusal n places) 0 ≡ b
+        → cond b (Truth.Is (isCutOf n (inThrees places))) (Truth.Refused (checkRefusal n places)) ≡ Truth.Is true
+        → (checkRefusal n places ≡ 0) × IsCut n (inThrees places)
+    go true p q = (eqb-true (checkRefusal n places) 0 p, cut-test n (inThrees places) .0 (is-true (isCutOf n (inThrees places)) true q))
+    go false p q = absurd (not-refused (checkRefusal n places) true q)
+
+    back : (checkRefusal n places ≡ 0) × IsCut n (inThrees places) → r ≡ Truth.Is true
+    back p = e ∙ rw (p .0, cut-test n (inThrees places) .1 (p .1))
+
+-- ---- the triangles by place are as many as those by vertex number
+same-told : {B : Type 0} (b : Bool) (m n : ℕ) (p q z : B) (r : Count) → m ≡ n
+    → cond {A = Count × B} b (Count.Is m, p) (r, z) .0 ≡ cond {A = Count × B} b (Count.Is n, q) (r, z) .0
+same-told true m n p q z r e = ap Count.Is e
+same-told false m n p q z r e = refl
+
+pub same-count : (coords : List Float) (corners ends : List ℕ) (k : ℕ) (out : List (List ℕ))
+    → trianglePlacesAnswer coords corners ends k out .0 ≡ trianglesAnswer coords corners ends k out .0
+unfolding trianglePlacesAnswer trianglesAnswer
+same-count coords corners ends k out =
+    same-told (eqb (trianglesRefusal coords corners ends k (length out)) 0) _ _ _ _ out _
+    (sym (by-place-long (verticesOf coords) (faceNumbered corners ends k)))

@@ -1,0 +1,28 @@
+-- `refusals::checked_refused` meets its contract: each of the two tests of n decides where it holds, and past them the list's own size
+-- does.
+use mathlib.Core.Path.{_∙_}
+use borrow.Author.Tests.{lt-ltb, le-ltb}
+use Rattle.refusals.specs.Refusals.{checkedRefused}
+use Rattle.refusals.proofs.Refusals.{checked-by-parts}
+use borrow.Author.Needs.{needs}
+use Rattle.refusals.proofs.checked_refused.Statement.{statement}
+use Rattle.refusals.proofs.checked_refused.Tie as tie
+
+too-few : tie.Need-returns
+unfolding checkedRefused
+too-few c = rw (lt-ltb _ 3 (c .if1 .taken))
+
+too-many : tie.Need-returns-2
+unfolding checkedRefused
+too-many c =
+    let few : tie.Else1 = search in
+    rw (le-ltb _ 3 (few .if1 .left), lt-ltb 256 _ (c .if2 .taken))
+
+by-parts : tie.Need-returns-3
+by-parts c =
+    let few : tie.Else1 = search in
+    let many : tie.Else2 = search in
+    c .parts-refused .ensures ∙ checked-by-parts _ _ (few .if1 .left) (many .if2 .left)
+
+pub checked-refused-spec : {M : Type 1} → statement M
+checked-refused-spec = tie.close (tie.spec too-few too-many (λ c κs. search needs) by-parts)

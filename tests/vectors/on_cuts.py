@@ -1,0 +1,144 @@
+"""Questions on triangles by place, and on triangles that are checked (SCOPE 7.9, SCOPE 20). The answers of `rows` are worked by hand, and
+cuts.py must give the same; those of random lists are cuts.py's. Cuts by place are the Rust's."""
+from asking import Case, MARK
+from cells import CUBE, HEX8, SEVEN, box, cell_of, prism, torn
+from cuts import check_cut
+from on_cells import CellCase
+
+# The vertex in the middle stands at the places 1 and 4 of the face.
+HOURGLASS, TWICE = [(0, 0, 0), (1, 1, 0), (0, 2, 0), (2, 2, 0), (2, 0, 0)], [0, 1, 2, 3, 1, 4]
+
+
+class ListCase(Case):
+    """Triangles that are checked: their places stand in the corner list."""
+
+    def check(self, n):
+        said = check_cut(n, self.cell[1])
+        answered = isinstance(said, bool)
+        self.put('check_cut', [n], 0 if answered else said, counts=[int(said)] if answered else [], shown=f' {n} corners')
+
+
+def fan(n):
+    return [x for k in range(1, n - 1) for x in (0, k, k + 1)]
+
+
+def rows():
+    """A face of so many corners, the places that are sent, and 1 for yes, 0 for no, or the refusal and no answer."""
+    square, hexagon = [0, 1, 2, 0, 2, 3], [0, 1, 2, 2, 3, 4, 4, 5, 0]
+    yes, no, size, index = (0, 1), (0, 0), (1, None), (4, None)
+    yield 'three', 3, [0, 1, 2], yes
+    yield 'three_from_1', 3, [1, 2, 0], yes
+    yield 'three_backward', 3, [0, 2, 1], no
+    yield 'three_of_none', 3, [], no
+    yield 'square', 4, square, yes
+    yield 'square_other_cut', 4, [1, 2, 3, 3, 0, 1], yes
+    yield 'square_other_order', 4, [2, 3, 0, 1, 2, 0], yes
+    yield 'square_doubled', 4, [0, 1, 2, 0, 1, 2], no
+    yield 'square_one_turned', 4, [0, 1, 2, 0, 3, 2], no
+    yield 'square_both_turned', 4, [0, 2, 1, 0, 3, 2], no
+    yield 'square_one_missing', 4, [0, 1, 2], no
+    yield 'square_one_more', 4, [*square, 0, 1, 2], no
+    yield 'square_overlapping', 4, [0, 1, 2, 1, 2, 3], no
+    yield 'square_place_twice', 4, [0, 1, 1, 1, 2, 3], no
+    yield 'pentagon', 5, fan(5), yes
+    yield 'hexagon_strip', 6, [0, 1, 5, 1, 2, 5, 2, 4, 5, 2, 3, 4], yes
+    yield 'hexagon_middle', 6, [*hexagon, 0, 2, 4], yes
+    yield 'hexagon_middle_turned', 6, [*hexagon, 0, 4, 2], no
+    yield 'hexagon_and_a_pillow', 6, [*hexagon, 0, 2, 4, 1, 3, 5, 1, 5, 3], no
+    yield 'seven_with_a_pillow', 7, [0, 1, 2, 2, 3, 4, 4, 5, 6, 1, 3, 5, 1, 5, 3], no
+    yield 'most_corners', 256, fan(256), yes
+    yield 'most_corners_one_less', 256, fan(255), no
+    yield 'no_corner', 0, [], size
+    yield 'two_corners_sent', 2, [0, 1, 0], size
+    yield 'corners_257', 257, fan(257), size
+    yield 'corners_2_32', MARK, [0, 1, 2], size
+    yield 'not_in_threes', 4, square[:-1], size
+    yield 'triangles_255', 256, [*fan(256), 0, 1, 2], size
+    yield 'triangles_254_of_4', 4, [0, 1, 2] * 254, no
+    yield 'size_before_place', 4, [0, 1, 4, 9], size
+    yield 'place_n', 4, [0, 1, 2, 0, 2, 4], index
+    yield 'place_beyond', 5, [MARK, 1, 2], index
+    yield 'place_last', 4, [0, 1, 2, 0, 2, 3, 9, 9, 9], index
+
+
+def random_cut(rng, n):
+    """Corners taken off a ring in any order, each triangle from any of its places on."""
+    ring, triangles = list(range(n)), []
+    while len(ring) >= 3:
+        k, turn = rng.randrange(len(ring)), rng.randrange(3)
+        ear = [ring[k - 1], ring[k], ring[(k + 1) % len(ring)]]
+        triangles.append(ear[turn:] + ear[:turn])
+        del ring[k]
+    rng.shuffle(triangles)
+    return triangles
+
+
+def spoilt(rng, n, triangles):
+    """A cut with one fault, which leaves some lists cuts of another kind."""
+    k, other = rng.randrange(len(triangles)), rng.randrange(len(triangles))
+    fault = rng.randrange(6)
+    if fault == 0:
+        triangles[k] = triangles[k][::-1]
+    elif fault == 1:
+        triangles[k] = triangles[other]
+    elif fault == 2:
+        del triangles[k]
+    elif fault == 3:
+        triangles[k] = [rng.randrange(n + 1), *triangles[k][1:]]
+    elif fault == 4:
+        triangles[k][0], triangles[other][0] = triangles[other][0], triangles[k][0]
+    else:
+        triangles.insert(k, rng.sample(range(n), 3))
+    return triangles
+
+
+def cuts(oracle, rng):
+    out = []
+
+    def checked(name, n, places, remark=''):
+        c = ListCase(oracle, f'check_{name}', ([], places, []), remark)
+        c.check(n)
+        out.append(c)
+        return c
+
+    def cut(name, cell, remark=''):
+        c = CellCase(oracle, f'places_{name}', cell, remark)
+        for k in c.faces_asked():
+            c.triangle_places(k)
+        out.append(c)
+        return c
+
+    for name, n, places, (why, said) in rows():
+        remark = f'refused {why}' if why else 'a cut' if said else 'not a cut'
+        checked(name, n, places, remark).said(why, **({} if why else {'counts': [said]}))
+    for k in range(60):
+        n = rng.choice((3, 4, 5, 6, 7, 9, 16, 17, 40, 64, 65, 128, 256))
+        triangles = random_cut(rng, n)
+        if k % 3:
+            triangles = spoilt(rng, n, triangles)
+        checked(k + 1, n, [p for t in triangles for p in t])
+    hourglass = cut('hourglass', cell_of(HOURGLASS, [TWICE]), 'a face that holds a vertex twice')
+    hourglass.said(0, counts=[4], triangles=[5, 0, 1, 5, 1, 2, 5, 2, 3, 3, 4, 5])
+    cut('seven_corners', cell_of(SEVEN, [range(7)]), 'cut short').said(0, counts=[3], triangles=[6, 0, 1, 6, 1, 2, 2, 3, 4])
+    cut('small_faces', cell_of(CUBE, [[], [3], [4, 6], [4, 6, 1]]))
+    cut('outside', (*cell_of(CUBE, HEX8)[:1], [8], [1]), 'refused 4')
+    for k in range(30):
+        cut(k + 1, cell_of(*(box, prism, torn)[k % 3](rng)))
+    room = CellCase(oracle, 'places_room', cell_of(CUBE, HEX8), 'a face number past the last is refused 4, a list of too few places 6')
+    for face, places in ((0, 0), (0, 1), (0, 2), (5, 1), (6, 0), (6, 9), (MARK, 2)):
+        room.triangle_places(face, places)
+    return out + [room]
+
+
+def short_lists(oracle):
+    """A list too short for the answer is 6, after every other refusal."""
+    out = []
+    for name, n, places in (('cut', 4, fan(4)), ('cut_size', 2, []), ('cut_place', 3, [0, 1, 3])):
+        c = ListCase(oracle, 'short_lists_' + name, ([], places, []))
+        c.in_short_lists('check_cut', lambda c=c, n=n: c.check(n))
+        out.append(c)
+    for name, cell in (('places', cell_of(CUBE, HEX8)), ('places_index', (*cell_of(CUBE, HEX8)[:1], [8], [1]))):
+        c = CellCase(oracle, 'short_lists_' + name, cell)
+        c.in_short_lists('triangle_places', lambda c=c: c.triangle_places(0))
+        out.append(c)
+    return out

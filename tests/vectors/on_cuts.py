@@ -74,7 +74,7 @@ def random_cut(rng, n):
 
 
 def spoilt(rng, n, triangles):
-    """A cut with one fault, which leaves some lists cuts of another kind."""
+    """A cut after one change out of six, some of which leave it a cut."""
     k, other = rng.randrange(len(triangles)), rng.randrange(len(triangles))
     fault = rng.randrange(6)
     if fault == 0:

@@ -114,7 +114,7 @@ pub extern "C" fn wegrusamt_point_in_phed(
     answer_lists::put_truth(geometry::point_in_phed(coords, cs, [x, y, z]), out)
 }
 
-// What the triangles of a face answer, by vertex number or by place, where their count has no place.
+// The return code of `triangles`, and so of `triangle_places`, when the caller's list for the count is empty.
 fn uncounted(coords: &[f64], corners: &[u32], ends: &[u32], face: u32) -> u8
     ensures { λ r. ⌜ told r [] [] ≡ written (ofCount (trianglesAnswer (old coords) (old corners) (old ends) face [] .0)) [] [] ⌝ }
 {

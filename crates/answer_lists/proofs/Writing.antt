@@ -11,7 +11,8 @@ use lib.Seq.{take-suc, drop-cons, set-at, take-all, length-take-le}
 use lib.Ieee.{Float}
 use borrow.Author.Tests.{lt-ltb, le-ltb}
 use Rattle.geometry.specs.declared.Clipped.{Clipped}
-use Rattle.geometry.specs.Listed.{values, Reply, told, front, tooShort, written, ofClipped, hidden, clippingTold}
+use Rattle.geometry.specs.Answers.{front}
+use Rattle.geometry.specs.Listed.{values, Reply, told, tooShort, written, ofClipped, hidden, clippingTold}
 
 -- the first i values stand at the front of the list, and behind them what stood there before
 pub record Copied {A : Type 0} (vs before : List A) (i : ℕ) (list : List A) : Type 0 where

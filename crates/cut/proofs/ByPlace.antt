@@ -9,7 +9,7 @@ use lib.Dec.{ltb}
 use lib.ListN.{length, getD, length-map}
 use lib.Ieee.{Float}
 use Rattle.places.specs.Lists.{without}
-use Rattle.places.specs.Ring.{placesOf, prevOf, nextOf, earOf}
+use Rattle.places.specs.Ring.{placesBelow, prevOf, nextOf, earOf}
 use Rattle.places.specs.declared.Found.{Found}
 use Rattle.places.specs.declared.Found.the-variants.{At, Nothing}
 use Rattle.places.proofs.Lists.{map-at, each-head, each-tail, each-without}
@@ -30,9 +30,9 @@ abbrev lookedUp : List ℕ → Cut → Cut
 lookedUp face cut = record { triangles = map (ringAt face) (cut .triangles); left = ringAt face (cut .left) }
 
 -- the triangle at a place of a ring, looked up, is that of the ring looked up
-ear-alike : (face : List ℕ) (k : ℕ) (ks : List ℕ) → k < length ks → earOf k (ringAt face ks) ≡ ringAt face (earOf k ks)
+ear-looked : (face : List ℕ) (k : ℕ) (ks : List ℕ) → k < length ks → earOf k (ringAt face ks) ≡ ringAt face (earOf k ks)
 unfolding earOf ringAt
-ear-alike face k ks h =
+ear-looked face k ks h =
     let look : ℕ → ℕ = λ i. getD face i 0 in
     let n = length ks in
     let at : (i : ℕ) → i < n → getD (map look ks) i 0 ≡ look (getD ks i 0) = λ i l. map-at look ks i 0 0 l in
@@ -79,26 +79,26 @@ module _ (vs : List Point) (face : List ℕ) where
             → ((js : List ℕ) → Within face js → cutRing byNumber more (ringAt face js) ≡ lookedUp face (cutRing byPlace more js))
             → cutWith f (ringAt face ks) (cutRing byNumber more) ≡ lookedUp face (cutWith f ks (cutRing byPlace more))
         go Nothing e ih = refl
-        go (At k) e ih = rw (ear-alike face k ks (choice-below k ks e), ← ring-without face k ks, ih (without k ks) (each-without k ks w))
+        go (At k) e ih = rw (ear-looked face k ks (choice-below k ks e), ← ring-without face k ks, ih (without k ks) (each-without k ks w))
 
   -- ---- the whole face: its places are in order, and looked up they are the face
-  order : InOrder (placesOf (length face))
+  order : InOrder (placesBelow (length face))
   order k h = place-at (length face) k (omega (arith, length-places (length face)))
 
-  places-within : Within face (placesOf (length face))
-  places-within = whole-within face (placesOf (length face)) order (length-places (length face))
+  places-within : Within face (placesBelow (length face))
+  places-within = whole-within face (placesBelow (length face)) order (length-places (length face))
 
-  pub places-ring : ringAt face (placesOf (length face)) ≡ face
-  places-ring = whole-ring face (placesOf (length face)) order (length-places (length face))
+  pub places-ring : ringAt face (placesBelow (length face)) ≡ face
+  places-ring = whole-ring face (placesBelow (length face)) order (length-places (length face))
 
-  axis-alike : axisFor (cornersOf vs face) (placesOf (length face)) ≡ axisFor vs face
+  axis-alike : axisFor (cornersOf vs face) (placesBelow (length face)) ≡ axisFor vs face
   unfolding axisFor
-  axis-alike = rw (corners-alike (placesOf (length face)) places-within, places-ring)
+  axis-alike = rw (corners-alike (placesBelow (length face)) places-within, places-ring)
 
-  whole-alike : (axis : ℕ) → cutIn vs axis face ≡ lookedUp face (cutIn (cornersOf vs face) axis (placesOf (length face)))
+  whole-alike : (axis : ℕ) → cutIn vs axis face ≡ lookedUp face (cutIn (cornersOf vs face) axis (placesBelow (length face)))
   unfolding cutIn
   whole-alike axis =
-      let ks = placesOf (length face) in
+      let ks = placesBelow (length face) in
       let more = length face - 3 in
       let dir = directionOf (pointsOf vs axis face) in
       let seen : pointsOf (cornersOf vs face) axis ks ≡ pointsOf vs axis face = points-alike axis ks places-within ∙ rw places-ring in
@@ -112,7 +112,7 @@ by-place vs face =
     rw (length-places (length face), axis-alike vs face, whole-alike vs face (axisFor vs face)) (go (ltb (length face) 3))
   where
     go : (b : Bool) →
-        let cut = cutIn (cornersOf vs face) (axisFor vs face) (placesOf (length face)) in
+        let cut = cutIn (cornersOf vs face) (axisFor vs face) (placesBelow (length face)) in
         cond b nothing (lookedUp face cut) ≡ lookedUp face (cond b nothing cut)
     go true = refl
     go false = refl
@@ -121,10 +121,10 @@ by-place vs face =
 pub by-place-long : (vs : List Point) (face : List ℕ) → length (cutOf vs face .triangles) ≡ length (cutByPlace vs face .triangles)
 by-place-long vs face = ap (λ c. length (c .triangles)) (by-place vs face) ∙ length-map (cutByPlace vs face .triangles) (ringAt face)
 
-pub by-place-over : (vs : List Point) (face : List ℕ) → length (cutOf vs face .left) ≡ length (cutByPlace vs face .left)
+by-place-over : (vs : List Point) (face : List ℕ) → length (cutOf vs face .left) ≡ length (cutByPlace vs face .left)
 by-place-over vs face = ap (λ c. length (c .left)) (by-place vs face) ∙ ring-long face (cutByPlace vs face .left)
 
--- where one leaves none, so does the other
+-- where one leaves none, so does the other; here by place
 none-of-none : {A B : Type 0} (xs : List A) (ys : List B) → length xs ≡ length ys → xs ≡ [] → ys ≡ []
 none-of-none xs [] e h = refl
 none-of-none xs (y ∷ ys) e h = absurd (omega (arith, ap length h))
@@ -132,14 +132,11 @@ none-of-none xs (y ∷ ys) e h = absurd (omega (arith, ap length h))
 pub by-place-left : (vs : List Point) (face : List ℕ) → cutOf vs face .left ≡ [] → cutByPlace vs face .left ≡ []
 by-place-left vs face h = none-of-none (cutOf vs face .left) (cutByPlace vs face .left) (by-place-over vs face) h
 
-pub left-by-place : (vs : List Point) (face : List ℕ) → cutByPlace vs face .left ≡ [] → cutOf vs face .left ≡ []
-left-by-place vs face h = none-of-none (cutByPlace vs face .left) (cutOf vs face .left) (sym (by-place-over vs face)) h
-
 -- ---- a face whose corners' points and places are copied: the places are numbers of those points, and cut so it is cut by place
-places-inside : (vs : List Point) (face : List ℕ) → Inside (cornersOf vs face) (placesOf (length face))
+places-inside : (vs : List Point) (face : List ℕ) → Inside (cornersOf vs face) (placesBelow (length face))
 places-inside vs face = rw length-corners (places-within vs face)
 
-module _ {ps : List Point} {ks : List ℕ} {n : ℕ} (vs : List Point) (face : List ℕ) (p : ps ≡ cornersOf vs face) (k : ks ≡ placesOf n)
+module _ {ps : List Point} {ks : List ℕ} {n : ℕ} (vs : List Point) (face : List ℕ) (p : ps ≡ cornersOf vs face) (k : ks ≡ placesBelow n)
     (many : n ≡ length face) where
   pub copied-inside : Inside ps ks
   copied-inside = rw (p, k, many) (places-inside vs face)

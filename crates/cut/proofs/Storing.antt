@@ -10,7 +10,7 @@ use lib.Dec.{eqb}
 use lib.ListN.{length, getD, set, take, replicate, length-set}
 use lib.Seq.{getD-set-same, getD-set-other, ext-getD}
 use Rattle.places.specs.Steps.{removed}
-use Rattle.places.specs.Ring.{placesOf}
+use Rattle.places.specs.Ring.{placesBelow}
 use Rattle.places.proofs.Folding.{Folding, fold-next, fold-end}
 use Rattle.places.proofs.Lists.{shift-removed, first-of}
 use Rattle.places.proofs.Rings.{length-places, place-at}
@@ -60,9 +60,9 @@ module _ {n i : ℕ} {l : List ℕ} (q : Ordering n i l) where
   order-end h k g = q .own k (omega (arith, q .long))
 
   -- so they are the places in order
-  pub order-places : n ≤ i → l ≡ placesOf n
+  pub order-places : n ≤ i → l ≡ placesBelow n
   order-places h =
-      ext-getD 0 l (placesOf n) (q .long ∙ sym (length-places n)) (λ k g. order-end h k g ∙ sym (place-at n k (omega (arith, q .long))))
+      ext-getD 0 l (placesBelow n) (q .long ∙ sym (length-places n)) (λ k g. order-end h k g ∙ sym (place-at n k (omega (arith, q .long))))
 
 -- ---- the first n places of an array of k places and of one of k points
 pub lent : (n k : ℕ) → n ≤ k

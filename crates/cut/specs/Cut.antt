@@ -1,6 +1,6 @@
 -- The cut of a face: its triangles in order, and the ring that is left. A ring is a list of vertex numbers, and so are its triangles;
 -- a corner's point is looked up.
--- What the code's contracts cite, what the worked rows compute and what demand 3 speaks of is `cutOf`.
+-- What the code's contracts cite, what the worked rows compute and what demand 3 speaks of is `cutOf`, and by place `cutByPlace`.
 use mathlib.Core.Bool.{cond}
 use Prim.Native.Nat.{ℕ, zero, suc, _-_}
 use mathlib.Core.Path.{_≡_}
@@ -9,7 +9,7 @@ use lib.ListN.{length, getD}
 use lib.Dec.{ltb}
 use lib.Ieee.{Float}
 use Rattle.places.specs.Lists.{without}
-use Rattle.places.specs.Ring.{placesOf, earOf}
+use Rattle.places.specs.Ring.{placesBelow, earOf}
 use Rattle.places.specs.declared.Found.{Found}
 use Rattle.places.specs.declared.Found.the-variants.{At, Nothing}
 use Rattle.flat.specs.Points.{Point, cornersOf}
@@ -63,15 +63,15 @@ cutOf vs face =
     cond (ltb (length face) 3) nothing cut
 
 -- ---- the same by place: a face may hold a vertex twice, and a place names one corner
--- the corners' points are the vertices, and the face is its places 0 to n − 1 in order
+-- the cut of a face, each corner by its place in it: the corners' points are taken for the vertices, and the places 0 to n − 1 for the face
 unfoldable pub cutByPlace : List Point → List ℕ → Cut
-cutByPlace vs face = cutOf (cornersOf vs face) (placesOf (length face))
+cutByPlace vs face = cutOf (cornersOf vs face) (placesBelow (length face))
 
 -- the vertex numbers that stand at places of a face
 unfoldable pub ringAt : List ℕ → List ℕ → List ℕ
 ringAt face ks = map (λ k. getD face k 0) ks
 
--- it is the one cut: the numbers looked up in the face, it is `cutOf`, triangle for triangle and corner for corner of the ring that is left
+-- with the vertex number at each place looked up, the cut by place is `cutOf`: the same triangles, in order, and the same ring left
 abbrev pub ByPlace : Type 0
 ByPlace =
     (vs : List Point) (face : List ℕ) →

@@ -5,7 +5,7 @@ ghost use Prim.Native.Nat.{_-_, _*_, _≤_};
 ghost use lib.ListN.{length};
 ghost use Rattle.places.specs.Lent.{old, new};
 ghost use Rattle.places.specs.Limits.{mostCorners};
-ghost use Rattle.places.specs.Ring.{placesOf};
+ghost use Rattle.places.specs.Ring.{placesBelow};
 ghost use Rattle.flat.specs.Points.{verticesOf, cornersOf};
 ghost use Rattle.flat.specs.Steps.{Inside};
 ghost use Rattle.cut.specs.Cut.{cutByPlace};
@@ -28,7 +28,7 @@ fn fill_corners(coords: &[f64], face: &[u32], points: &mut [f64])
 // The places of a face in order.
 fn fill_order(order: &mut [u32])
     requires { ⌜ length (now order) ≤ mostCorners ⌝ }
-    ensures { λ _. ⌜ new order ≡ placesOf (length (old order)) ⌝ }
+    ensures { λ _. ⌜ new order ≡ placesBelow (length (old order)) ⌝ }
 {
     let n = order.len();
     let mut i = 0;
@@ -56,8 +56,8 @@ fn cut_copied(
     crate::cut(points, order, out)
 }
 
-// The same with lists of its own. One function a size: a small face does not clear the lists of a large one, and the stack holds those of
-// one size at a time.
+// A face is cut by place with lists of its own. One function a size: a small face does not clear the lists of a large one, and the stack
+// holds those of one size at a time.
 fn by_place_16(coords: &[f64], face: &[u32], out: &mut [[u32; 3]]) -> crate::Counts
     requires { ⌜ Inside (verticesOf (now coords)) (now face) ⌝ }
     requires { ⌜ (length (now face) ≤ 16) × (length (now face) - 2 ≤ length (now out)) ⌝ }

@@ -16,11 +16,11 @@ use Rattle.places.proofs.Lists.{each-nil, each-cons}
 use Rattle.places.proofs.Stored.{length-threes, threes-at}
 use Rattle.exact.proofs.Conditions.{none-each}
 use Rattle.cut_check.specs.CutCheck.{Different, notDifferent, isCutOf}
-use Rattle.cut_check.specs.Steps.{Paired, Corners}
+use Rattle.cut_check.specs.Steps.{Paired, CheckedCorners}
 use Rattle.cut_check.proofs.Test.{different-is, cut-test}
 use Rattle.cut_check.proofs.Pairs.{paired-cut}
 
--- ---- refused before the sides are looked at
+-- ---- no, before the sides are looked at
 -- the number is wrong
 pub wrong-number : (n : ℕ) (c : List ℕ) → (length c / 3 + 2 ≡ n → ⊥) → false ≡ isCutOf n (inThrees c)
 unfolding isCutOf
@@ -37,7 +37,7 @@ not-different n c e q = rw (← e, q) (go (eqb (length (inThrees c) + 2) n) _)
 
 -- ---- and the sides
 -- each triangle is of places of the face
-threes-below : {n : ℕ} {c : List ℕ} → Corners n c → Each [] (Each 0 (λ p. p < n)) (inThrees c)
+threes-below : {n : ℕ} {c : List ℕ} → CheckedCorners n c → Each [] (Each 0 (λ p. p < n)) (inThrees c)
 threes-below {n} {c} k = record { holds = λ i h. at i (omega (arith, length-threes c)) }
   where
     at : (i : ℕ) → i < length c / 3 → Each 0 (λ p. p < n) (getD (inThrees c) i [])
@@ -53,8 +53,8 @@ same-answer true b i = sym (i .0 refl)
 same-answer false true i = i .1 refl
 same-answer false false i = refl
 
-pub paired-is-cut : {n : ℕ} {c : List ℕ} {r s : Bool} → 3 ≤ n → Corners n c → length c / 3 + 2 ≡ n → s ≡ anyOf notDifferent (inThrees c)
-    → s ≡ false → ((r ≡ true) ↔ Paired n (inThrees c)) → r ≡ isCutOf n (inThrees c)
+pub paired-is-cut : {n : ℕ} {c : List ℕ} {r s : Bool} → 3 ≤ n → CheckedCorners n c → length c / 3 + 2 ≡ n
+    → s ≡ anyOf notDifferent (inThrees c) → s ≡ false → ((r ≡ true) ↔ Paired n (inThrees c)) → r ≡ isCutOf n (inThrees c)
 paired-is-cut {n} {c} {r} h k e q f i =
     let each = none-each notDifferent [] (inThrees c) .0 (sym q ∙ f) in
     let apart : Each [] Different (inThrees c) = record { holds = λ j g. different-is (getD (inThrees c) j []) .0 (each .holds j g) } in

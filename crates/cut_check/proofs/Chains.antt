@@ -72,16 +72,16 @@ pub goes-back : {next c : List ℕ} {h h′ : ℕ} → Backward next c → 0 < h
 goes-back {next} {c} {h} b g e = omega (arith, b .back (h - 1))
 
 -- from h on a list of corners is left, of which P holds
-pub record Going (next : List ℕ) (h : ℕ) (P : List ℕ → Type 0) : Type 0 where
+pub record Along (next : List ℕ) (h : ℕ) (P : List ℕ → Type 0) : Type 0 where
   pub left : List ℕ
   pub chain : Chain next h left
   pub so : P left
 
 module _ {next : List ℕ} {h : ℕ} {P : List ℕ → Type 0} where
   -- the next corner is h - 1
-  pub going-at : {R : Type 0} → Going next h P → 0 < h
+  pub along-at : {R : Type 0} → Along next h P → 0 < h
       → ((ps : List ℕ) → Chain next (getD next (h - 1) 0) ps → P ((h - 1) ∷ ps) → R) → R
-  going-at {R} r g f = go (r .left) (r .chain) (r .so)
+  along-at {R} r g f = go (r .left) (r .chain) (r .so)
     where
       go : (l : List ℕ) → Chain next h l → P l → R
       go [] z q = absurd (omega arith)
@@ -90,12 +90,12 @@ module _ {next : List ℕ} {h : ℕ} {P : List ℕ → Type 0} where
           let e : p ≡ h - 1 = omega arith in
           f l (rw e at (k .1)) (rw e at q)
 
-  pub going-more : {Q : List ℕ → Type 0} {h′ : ℕ} → Going next h P → 0 < h → h′ ≡ getD next (h - 1) 0
-      → ((ps : List ℕ) → P ((h - 1) ∷ ps) → Q ps) → Going next h′ Q
-  going-more r g e f = going-at r g (λ ps k q. record { left = ps; chain = rw e k; so = f ps q })
+  pub along-more : {Q : List ℕ → Type 0} {h′ : ℕ} → Along next h P → 0 < h → h′ ≡ getD next (h - 1) 0
+      → ((ps : List ℕ) → P ((h - 1) ∷ ps) → Q ps) → Along next h′ Q
+  along-more r g e f = along-at r g (λ ps k q. record { left = ps; chain = rw e k; so = f ps q })
 
-  pub going-end : Going next h P → h ≡ 0 → P []
-  going-end r z = go (r .left) (r .chain) (r .so)
+  pub along-end : Along next h P → h ≡ 0 → P []
+  along-end r z = go (r .left) (r .chain) (r .so)
     where
       go : (l : List ℕ) → Chain next h l → P l → P []
       go [] k q = q

@@ -9,14 +9,14 @@ use lib.Dec.{eqb}
 use lib.ListN.{length, getD, take}
 use lib.Seq.{take-suc, take-all}
 use borrow.Author.Tests.{eqb-true, eqb-false, eq-eqb, ne-eqb}
-use Rattle.places.specs.Loops.{oneIf}
+use Rattle.places.specs.Loops.{oneIf, countOf}
 use Rattle.places.specs.Ring.{sides}
 use Rattle.places.specs.Stored.{inThrees}
 use Rattle.places.proofs.Stored.{length-threes, threes-at}
 use Rattle.exact.specs.Sides.{count, runs}
 use Rattle.exact.proofs.Balance.{and-comm}
 use Rattle.exact.proofs.Reversed.{runs-none, runs-cons}
-use Rattle.cut_check.specs.Steps.{afterOf, beforeOf, placeAfter, placeBefore, cornersAt, times, Corners}
+use Rattle.cut_check.specs.Steps.{afterOf, beforeOf, placeAfter, placeBefore, cornersAt, times, CheckedCorners}
 
 -- ---- neighbours in a triangle
 pub after-below : (s m : ℕ) → s < m → m % 3 ≡ 0 → afterOf s < m
@@ -33,14 +33,14 @@ before-below s m h e = go (eqb (s % 3) 0) refl
     go true q = let p : s % 3 ≡ 0 = eqb-true (s % 3) 0 q in omega arith
     go false q = omega arith
 
-pub after-within : {n i : ℕ} {c : List ℕ} (s : ℕ) → Corners n c → s < length c → i ≡ afterOf s → i < length c
+pub after-within : {n i : ℕ} {c : List ℕ} (s : ℕ) → CheckedCorners n c → s < length c → i ≡ afterOf s → i < length c
 after-within {n} {i} {c} s k h e = rw e (after-below s (length c) h (k .threes))
 
-pub before-within : {n i : ℕ} {c : List ℕ} (s : ℕ) → Corners n c → s < length c → i ≡ beforeOf s → i < length c
+pub before-within : {n i : ℕ} {c : List ℕ} (s : ℕ) → CheckedCorners n c → s < length c → i ≡ beforeOf s → i < length c
 before-within {n} {i} {c} s k h e = rw e (before-below s (length c) h (k .threes))
 
 -- the place of a corner
-pub place-below : {n a s : ℕ} {c : List ℕ} → Corners n c → s < length c → a ≡ getD c s 0 → a < n
+pub place-below : {n a s : ℕ} {c : List ℕ} → CheckedCorners n c → s < length c → a ≡ getD c s 0 → a < n
 place-below {n} {a} {s} {c} k h e = rw e (k .below .holds s h)
 
 -- those of the three corners of the triangle k
@@ -63,19 +63,19 @@ before-third : (k : ℕ) → beforeOf (suc (suc (k * 3))) ≡ k * 3 + 1
 before-third k = rw (ne-eqb (suc (suc (k * 3)) % 3) 0 (λ e. absurd (omega arith))) (omega arith)
 
 -- ---- how often a place stands in a list
-pub times-append : (b : ℕ) (xs ys : List ℕ) → times b (xs ++ ys) ≡ times b xs + times b ys
-unfolding times
+times-append : (b : ℕ) (xs ys : List ℕ) → times b (xs ++ ys) ≡ times b xs + times b ys
+unfolding countOf
 times-append b [] ys = omega arith
 times-append b (x ∷ xs) ys = omega (arith, times-append b xs ys)
 
 pub times-last : (b : ℕ) (xs : List ℕ) (y : ℕ) → times b (xs ++ y ∷ []) ≡ times b xs + oneIf (eqb y b)
-unfolding times
+unfolding countOf
 times-last b xs y = omega (arith, times-append b xs (y ∷ []))
 
 -- one more corner counts where it is at the place i
 times-more : (f : ℕ → ℕ) (i j : ℕ) (c : List ℕ) (s : ℕ)
     → times j (map f (cornersAt i c (suc s))) ≡ oneIf (eqb (getD c s 0) i && eqb (f s) j) + times j (map f (cornersAt i c s))
-unfolding times cornersAt
+unfolding countOf cornersAt
 times-more f i j c s = go (eqb (getD c s 0) i)
   where
     go : (b : Bool) → times j (map f (cond b (s ∷ cornersAt i c s) (cornersAt i c s)))
@@ -113,7 +113,7 @@ module _ (c : List ℕ) (i j : ℕ) where
       ∙ ap (λ x. oneIf (eqb (getD c (suc (k * 3)) 0) i && eqb (f (suc (k * 3))) j) + x) (times-more f i j c (k * 3))))
 
   leaving : (k : ℕ) → k ≤ length c / 3 → runs i j (take k (inThrees c)) ≡ times j (map (placeAfter c) (cornersAt i c (k * 3)))
-  unfolding cornersAt times
+  unfolding cornersAt countOf
   leaving zero h = runs-none i j
   leaving (suc k) h =
       let three : times j (map (placeAfter c) (cornersAt i c (suc k * 3)))
@@ -124,7 +124,7 @@ module _ (c : List ℕ) (i j : ℕ) where
       omega (arith, three, runs-three c i j k h, leaving k (omega arith))
 
   coming : (k : ℕ) → k ≤ length c / 3 → runs j i (take k (inThrees c)) ≡ times j (map (placeBefore c) (cornersAt i c (k * 3)))
-  unfolding cornersAt times
+  unfolding cornersAt countOf
   coming zero h = runs-none j i
   coming (suc k) h =
       let x = getD c (k * 3) 0 in

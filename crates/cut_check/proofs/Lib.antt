@@ -1,4 +1,4 @@
-pub mod Rings
+pub mod FaceSides
 pub mod Test
 pub mod Pairs
 pub mod Accepted

@@ -12,11 +12,11 @@ use lib.ListN.{length, getD, set, take, replicate, length-set}
 use lib.Seq.{getD-set-same, getD-set-other, set-out}
 use borrow.Author.Tests.{eq-eqb, ne-eqb, lt-ltb, le-ltb}
 use Rattle.places.specs.Lists.{Each}
-use Rattle.places.specs.Loops.{oneIf}
-use Rattle.places.proofs.Lists.{each-head, each-tail}
+use Rattle.places.specs.Loops.{oneIf, countOf}
+use Rattle.places.proofs.Lists.{first-of, each-head, each-tail}
 use Rattle.places.proofs.Loops.{one-at-most}
 use Rattle.cut_check.specs.Steps.{times, Chain, Marks, Zeros, marked, taken, Took}
-use Rattle.cut_check.proofs.Chains.{Going, going-at, going-more, going-end}
+use Rattle.cut_check.proofs.Chains.{Along, along-at, along-more, along-end}
 
 -- ---- lists of zeros
 zero-at : (n k b : ℕ) → getD (take n (replicate k 0)) b 0 ≤ 0
@@ -25,8 +25,18 @@ zero-at (suc n) zero b = omega arith
 zero-at (suc n) (suc k) zero = omega arith
 zero-at (suc n) (suc k) (suc b) = zero-at n k b
 
-pub zeros : (n k : ℕ) → Zeros (take n (replicate k 0))
+zeros : (n k : ℕ) → Zeros (take n (replicate k 0))
 zeros n k = record { most = zero-at n k }
+
+-- the first n and m places of arrays of zeros: how many they are, and that they are zeros
+pub lists-lent : (n m k j : ℕ) → n ≤ k → m ≤ j →
+    let one : List ℕ = take n (replicate k 0) in
+    let other : List ℕ = take m (replicate j 0) in
+    ((length one ≡ n) × (length one ≡ n) × (length other ≡ m)) × (Zeros one × Zeros one × Zeros other)
+lists-lent n m k j h g =
+    let one = sym (first-of {A = ℕ} n k 0 h) in
+    let other = sym (first-of {A = ℕ} m j 0 g) in
+    ((one, one, other), (zeros n k, zeros n k, zeros m j))
 
 -- ---- what is written
 pub length-marked : (x : ℕ) (bs mark : List ℕ) → length (marked x bs mark) ≡ length mark
@@ -57,14 +67,14 @@ marks-marked x (b ∷ bs) h m = marks-marked x bs h (marks-set x b h m)
 
 -- a place that is not among those written keeps what it had, and the others have x
 written-kept : (x : ℕ) (bs mark : List ℕ) (j : ℕ) → times j bs ≡ 0 → getD (marked x bs mark) j 0 ≡ getD mark j 0
-unfolding marked times
+unfolding marked countOf
 written-kept x [] mark j e = refl
 written-kept x (b ∷ bs) mark j e =
     written-kept x bs (set mark b x) j (omega arith)
     ∙ getD-set-other mark b j x 0 (λ q. absurd (omega (arith, e, rw (eq-eqb b j (sym q)) at e)))
 
 written-at : (x : ℕ) (bs mark : List ℕ) (j : ℕ) → Each 0 (λ b. b < length mark) bs → 0 < times j bs → getD (marked x bs mark) j 0 ≡ x
-unfolding marked times
+unfolding marked countOf
 written-at x [] mark j t h = absurd (omega arith)
 written-at x (b ∷ bs) mark j t h =
     by-cases (decLt 0 (times j bs))
@@ -108,7 +118,7 @@ taken-last x (a ∷ bs) b mark = go (eqb (getD mark a 0) x) (taken-last x bs b (
 
 pub taken-is : (x : ℕ) (bs mark : List ℕ) → 0 < x → Each 0 (λ b. b < length mark) bs
     → (taken x bs mark ≡ true) ↔ ((j : ℕ) → times j bs ≤ oneIf (eqb (getD mark j 0) x))
-unfolding taken times
+unfolding taken countOf
 taken-is x [] mark h t = (λ e j. omega arith, λ m. refl)
 taken-is x (b ∷ bs) mark h t =
     go (eqb (getD mark b 0) x) refl (taken-is x bs (set mark b 0) h (rw (length-set mark b 0) (each-tail t)))
@@ -138,7 +148,7 @@ taken-is x (b ∷ bs) mark h t =
 -- ---- along a chain with the corners ps
 -- x is written at the places f p of its corners p: what is left from h on makes, with the marks, the whole
 pub record Writing (next : List ℕ) (f : ℕ → ℕ) (x : ℕ) (ps mark₀ : List ℕ) (h : ℕ) (mark : List ℕ) : Type 0 where
-  pub going : Going next h (λ l. marked x (map f l) mark ≡ marked x (map f ps) mark₀)
+  pub going : Along next h (λ l. marked x (map f l) mark ≡ marked x (map f ps) mark₀)
 
 module _ {next : List ℕ} {f : ℕ → ℕ} {x : ℕ} {ps mark₀ : List ℕ} where
   pub write-start : {h : ℕ} → Chain next h ps → Writing next f x ps mark₀ h mark₀
@@ -147,15 +157,15 @@ module _ {next : List ℕ} {f : ℕ → ℕ} {x : ℕ} {ps mark₀ : List ℕ} w
   module _ {h : ℕ} {mark : List ℕ} (w : Writing next f x ps mark₀ h mark) where
     pub write-more : {h′ b : ℕ} → 0 < h → h′ ≡ getD next (h - 1) 0 → b ≡ f (h - 1) → Writing next f x ps mark₀ h′ (set mark b x)
     unfolding marked
-    write-more g q e = record { going = going-more (w .going) g q (λ l so. rw e so) }
+    write-more g q e = record { going = along-more (w .going) g q (λ l so. rw e so) }
 
     pub write-end : h ≡ 0 → mark ≡ marked x (map f ps) mark₀
     unfolding marked
-    write-end z = going-end (w .going) z
+    write-end z = along-end (w .going) z
 
 -- the marks x at these places are taken off
 pub record Taking (next : List ℕ) (f : ℕ → ℕ) (x : ℕ) (ps mark₀ : List ℕ) (h : ℕ) (mark : List ℕ) : Type 0 where
-  pub going : Going next h
+  pub going : Along next h
       (λ l. (taken x (map f l) mark ≡ taken x (map f ps) mark₀) × (marked 0 (map f l) mark ≡ marked 0 (map f ps) mark₀))
 
 module _ {next : List ℕ} {f : ℕ → ℕ} {x : ℕ} {ps mark₀ : List ℕ} where
@@ -167,7 +177,7 @@ module _ {next : List ℕ} {f : ℕ → ℕ} {x : ℕ} {ps mark₀ : List ℕ} w
     pub take-no : {b : ℕ} {mark′ : List ℕ} → 0 < h → b ≡ f (h - 1) → getD mark b 0 ≢ x → Took x (map f ps) mark₀ mark′ false
     unfolding taken
     take-no {b} g e n = record {
-      answer = going-at (t .going) g (λ l k so. sym (rw (← e, ne-eqb (getD mark b 0) x n)) ∙ so .0);
+      answer = along-at (t .going) g (λ l k so. sym (rw (← e, ne-eqb (getD mark b 0) x n)) ∙ so .0);
       off = λ z. absurd (let z : _≡_ {A = ℕ} 0 1 = cc in omega arith);
     }
 
@@ -176,9 +186,9 @@ module _ {next : List ℕ} {f : ℕ → ℕ} {x : ℕ} {ps mark₀ : List ℕ} w
         → Taking next f x ps mark₀ h′ (set mark b 0)
     unfolding taken marked
     take-more {h′} {b} g q e m = record {
-      going = going-more (t .going) g q (λ l so. (sym (rw (← e, eq-eqb (getD mark b 0) x m)) ∙ so .0, rw e (so .1)));
+      going = along-more (t .going) g q (λ l so. (sym (rw (← e, eq-eqb (getD mark b 0) x m)) ∙ so .0, rw e (so .1)));
     }
 
     pub take-end : h ≡ 0 → Took x (map f ps) mark₀ mark true
     unfolding taken marked
-    take-end z = let so = going-end (t .going) z in record { answer = so .0; off = λ q. so .1 }
+    take-end z = let so = along-end (t .going) z in record { answer = so .0; off = λ q. so .1 }

@@ -18,13 +18,14 @@ use Rattle.places.proofs.Rings.{next-below}
 use Rattle.exact.specs.Sides.{runs}
 use Rattle.exact.proofs.Reversed.{runs-none, runs-cons}
 use Rattle.cut_check.specs.CutCheck.{Different, faceSide, IsCut}
-use Rattle.cut_check.specs.Steps.{beside, Paired}
-use Rattle.cut_check.proofs.Rings.{no-start, no-end, face-side, face-not-back}
+use Rattle.cut_check.specs.Steps.{runsBeside, Paired}
+use Rattle.exact.proofs.RingSides.{no-start, no-end}
+use Rattle.cut_check.proofs.FaceSides.{face-side, face-not-back}
 
 -- beside the face backward, every side runs as often as it is run back, and at most once
 pub record OnceEachWay (n : ℕ) (ts : List (List ℕ)) : Type 0 where
-  pub back : (i j : ℕ) → beside n ts i j ≡ beside n ts j i
-  pub once : (i j : ℕ) → beside n ts i j ≤ 1
+  pub back : (i j : ℕ) → runsBeside n ts i j ≡ runsBeside n ts j i
+  pub once : (i j : ℕ) → runsBeside n ts i j ≤ 1
 
 -- what both say of one side, by whether it is the face's and whether its back is: f and g say that, a and b how often the triangles have it
 cut-side : (f g : Bool) (a b : ℕ) → (f ≡ true → (a ≡ 1) × (b ≡ 0)) → (g ≡ true → (b ≡ 1) × (a ≡ 0))
@@ -37,14 +38,14 @@ cut-side false false a b own back other =
 
 module _ (n : ℕ) (ts : List (List ℕ)) where
   pub cut-even : IsCut n ts → OnceEachWay n ts
-  unfolding beside
+  unfolding runsBeside
   cut-even c = record { back = λ i j. side i j .0; once = λ i j. side i j .1 }
     where
-      side : (i j : ℕ) → (beside n ts i j ≡ beside n ts j i) × (beside n ts i j ≤ 1)
+      side : (i j : ℕ) → (runsBeside n ts i j ≡ runsBeside n ts j i) × (runsBeside n ts i j ≤ 1)
       side i j = cut-side (faceSide n i j) (faceSide n j i) (runs i j ts) (runs j i ts) (c .own i j) (c .own j i) (c .other i j)
 
   pub even-cut : 3 ≤ n → length ts + 2 ≡ n → Each [] Different ts → OnceEachWay n ts → IsCut n ts
-  unfolding beside
+  unfolding runsBeside
   even-cut h m d e = record {
     number = m;
     different = d;
@@ -78,8 +79,8 @@ no-face-side n i j h = (start (faceSide n i j) refl, end (faceSide n j i) refl)
     end false e = refl
 
 nothing-beside : (n i j : ℕ) (ts : List (List ℕ)) → Each [] (Each 0 (λ p. p < n)) ts → n ≤ i
-    → (beside n ts i j ≡ 0) × (beside n ts j i ≡ 0)
-unfolding beside
+    → (runsBeside n ts i j ≡ 0) × (runsBeside n ts j i ≡ 0)
+unfolding runsBeside
 nothing-beside n i j ts b h =
     let r = no-runs n i j ts b h in
     let f = no-face-side n i j h in
@@ -100,14 +101,14 @@ module _ (n : ℕ) (ts : List (List ℕ)) where
   pairs-even : Each [] (Each 0 (λ p. p < n)) ts → Paired n ts → OnceEachWay n ts
   pairs-even b p = record { back = λ i j. side i j .0; once = λ i j. side i j .1 }
     where
-      side : (i j : ℕ) → (beside n ts i j ≡ beside n ts j i) × (beside n ts i j ≤ 1)
+      side : (i j : ℕ) → (runsBeside n ts i j ≡ runsBeside n ts j i) × (runsBeside n ts i j ≤ 1)
       side i j = by-cases (decLt i n) (λ l. by-cases (decLt j n)
-          (λ m. pair-is (beside n ts i j) (beside n ts j i) .0 (p .pairs i j l, p .pairs j i m))
+          (λ m. pair-is (runsBeside n ts i j) (runsBeside n ts j i) .0 (p .pairs i j l, p .pairs j i m))
           (λ m. let z = nothing-beside n j i ts b (omega arith) in (omega arith, omega arith)))
           (λ l. let z = nothing-beside n i j ts b (omega arith) in (omega arith, omega arith))
 
   even-pairs : OnceEachWay n ts → Paired n ts
-  even-pairs e = record { pairs = λ i j _. pair-is (beside n ts i j) (beside n ts j i) .1 (e .back i j, e .once i j) .0 }
+  even-pairs e = record { pairs = λ i j _. pair-is (runsBeside n ts i j) (runsBeside n ts j i) .1 (e .back i j, e .once i j) .0 }
 
 pub paired-cut : (n : ℕ) (ts : List (List ℕ)) → 3 ≤ n → Each [] (Each 0 (λ p. p < n)) ts → length ts + 2 ≡ n → Each [] Different ts
     → Paired n ts ↔ IsCut n ts

@@ -5,33 +5,24 @@ use mathlib.Core.Path.{_≡_, refl, sym, _∙_}
 use mathlib.Core.Logic.{_↔_, _≢_, Iff·trans, by-cases}
 use mathlib.Core.Bool.{Bool, true, false, _&&_, cond}
 use mathlib.Core.List.{List, [], _∷_, _++_, map}
-use Prim.Native.Nat.{ℕ, zero, suc, _+_, _-_, _<_, _≤_}
+use Prim.Native.Nat.{ℕ, zero, suc, _+_, _<_, _≤_}
 use native.Mathlib.Decide.{ℕ-discrete}
 use native.Mathlib.Omega.{arith}
 use lib.Dec.{eqb, ltb}
 use lib.ListN.{length, getD, set}
-use borrow.Author.Tests.{eqb-true, ltb-true, ltb-false, eq-eqb, ne-eqb, lt-ltb}
+use borrow.Author.Tests.{eqb-true, ltb-true, eq-eqb, ne-eqb, lt-ltb}
 use Rattle.places.specs.Lists.{Each}
 use Rattle.places.specs.Ring.{nextOf, prevOf}
 use Rattle.places.specs.Stored.{inThrees}
 use Rattle.places.proofs.Lists.{each-nil, each-cons, each-append}
-use Rattle.places.proofs.Rings.{next-below, prev-below}
+use Rattle.places.proofs.Rings.{next-below, prev-below, next-prev, prev-next}
 use Rattle.cut_check.specs.CutCheck.{faceSide}
-use Rattle.cut_check.specs.Steps.{beside, Paired, PairedAt, placeAfter, placeBefore, cornersAt, times}
-use Rattle.cut_check.specs.Steps.{Corners, Marks, marked, taken, Took}
-use Rattle.cut_check.proofs.Rings.{next-prev}
+use Rattle.cut_check.specs.Steps.{runsBeside, Paired, PairedAt, placeAfter, placeBefore, cornersAt, times}
+use Rattle.cut_check.specs.Steps.{CheckedCorners, Marks, marked, taken, Took}
 use Rattle.cut_check.proofs.Corners.{after-below, before-below, times-last, runs-after, runs-before}
 use Rattle.cut_check.proofs.Marks.{length-marked, marked-last, marks-above, marks-marked, stamped, taken-last, taken-is}
 
 -- ---- the face's sides at a place
-prev-next : (j n : ℕ) → j < n → prevOf (nextOf j n) n ≡ j
-unfolding nextOf prevOf
-prev-next j n h = go (ltb (j + 1) n) refl
-  where
-    go : (b : Bool) → ltb (j + 1) n ≡ b → cond (eqb (cond b (j + 1) 0) 0) (n - 1) (cond b (j + 1) 0 - 1) ≡ j
-    go true e = rw (ne-eqb (j + 1) 0 (λ z. absurd (omega arith))) (omega arith)
-    go false e = omega (arith, ltb-false (j + 1) n e)
-
 -- that to the place a comes from the place before it, and that from it goes to the place after it
 face-to : (n j a : ℕ) → a < n → faceSide n j a ≡ eqb (prevOf a n) j
 unfolding faceSide
@@ -58,17 +49,17 @@ unfolding faceSide
 face-from n a j h = rw (lt-ltb a n h)
 
 -- ---- the places to which sides go from a, and those from which they come: of the triangles, and of all
-abbrev after : List ℕ → ℕ → List ℕ
-after c a = map (placeAfter c) (cornersAt a c (length c))
+abbrev leaving : List ℕ → ℕ → List ℕ
+leaving c a = map (placeAfter c) (cornersAt a c (length c))
 
-abbrev before : List ℕ → ℕ → List ℕ
-before c a = map (placeBefore c) (cornersAt a c (length c))
+abbrev coming : List ℕ → ℕ → List ℕ
+coming c a = map (placeBefore c) (cornersAt a c (length c))
 
 abbrev goesTo : ℕ → List ℕ → ℕ → List ℕ
-goesTo n c a = after c a ++ prevOf a n ∷ []
+goesTo n c a = leaving c a ++ prevOf a n ∷ []
 
 abbrev comesFrom : ℕ → List ℕ → ℕ → List ℕ
-comesFrom n c a = before c a ++ nextOf a n ∷ []
+comesFrom n c a = coming c a ++ nextOf a n ∷ []
 
 -- what holds of each of the first s corners
 each-corner : {P : ℕ → Type 0} (f : ℕ → ℕ) (a : ℕ) (c : List ℕ) (s : ℕ) → ((p : ℕ) → p < s → P (f p)) → Each 0 P (map f (cornersAt a c s))
@@ -92,28 +83,28 @@ module _ {n : ℕ} {c : List ℕ} {a p : ℕ} {mark : List ℕ} {r : Bool} (d : 
   pub decided-last : r ≡ true → (eqb (getD mark p 0) (a + 1) ≡ true) ↔ PairedAt n (inThrees c) a
   decided-last e = rw e at (d .answer)
 
-module _ {n : ℕ} {c : List ℕ} (k : Corners n c) {a : ℕ} (h : a < n) where
+module _ {n : ℕ} {c : List ℕ} (k : CheckedCorners n c) {a : ℕ} (h : a < n) where
   goes-below : Each 0 (λ b. b < n) (goesTo n c a)
   goes-below =
-      each-append (after c a) (prevOf a n ∷ [])
+      each-append (leaving c a) (prevOf a n ∷ [])
       (each-corner (placeAfter c) a c (length c) (λ p g. k .below .holds _ (after-below p (length c) g (k .threes))))
       (each-cons (prev-below a n h) each-nil)
 
   comes-below : Each 0 (λ b. b < n) (comesFrom n c a)
   comes-below =
-      each-append (before c a) (nextOf a n ∷ [])
+      each-append (coming c a) (nextOf a n ∷ [])
       (each-corner (placeBefore c) a c (length c) (λ p g. k .below .holds _ (before-below p (length c) g (k .threes))))
       (each-cons (next-below a n h) each-nil)
 
-  times-goes : (j : ℕ) → times j (goesTo n c a) ≡ beside n (inThrees c) a j
-  unfolding beside
+  times-goes : (j : ℕ) → times j (goesTo n c a) ≡ runsBeside n (inThrees c) a j
+  unfolding runsBeside
   times-goes j =
-      rw (face-to n j a h, runs-after c a j (k .threes)) (times-last j (after c a) (prevOf a n))
+      rw (face-to n j a h, runs-after c a j (k .threes)) (times-last j (leaving c a) (prevOf a n))
 
-  times-comes : (j : ℕ) → times j (comesFrom n c a) ≡ beside n (inThrees c) j a
-  unfolding beside
+  times-comes : (j : ℕ) → times j (comesFrom n c a) ≡ runsBeside n (inThrees c) j a
+  unfolding runsBeside
   times-comes j =
-      rw (face-from n a j h, runs-before c a j (k .threes)) (times-last j (before c a) (nextOf a n))
+      rw (face-from n a j h, runs-before c a j (k .threes)) (times-last j (coming c a) (nextOf a n))
 
   -- all marks that were written can be taken off exactly where the place is paired
   taken-paired : {mark : List ℕ} → length mark ≡ n → Marks a mark
@@ -131,27 +122,27 @@ module _ {n : ℕ} {c : List ℕ} (k : Corners n c) {a : ℕ} (h : a < n) where
 
   -- the marks are written, then taken off; the last that is asked for is that of the place before a
   module _ {mark mark′ mark″ : List ℕ} {q : ℕ} {r : Bool} (e : length mark ≡ n) (m : Marks a mark)
-      (w : mark′ ≡ marked (a + 1) (before c a) mark) (f : q ≡ nextOf a n)
-      (t : Took (a + 1) (after c a) (set mark′ q (a + 1)) mark″ r) where
+      (w : mark′ ≡ marked (a + 1) (coming c a) mark) (f : q ≡ nextOf a n)
+      (t : Took (a + 1) (leaving c a) (set mark′ q (a + 1)) mark″ r) where
     all-marked : set mark′ q (a + 1) ≡ marked (a + 1) (comesFrom n c a) mark
-    all-marked = rw (w, f) (sym (marked-last (a + 1) (before c a) (nextOf a n) mark))
+    all-marked = rw (w, f) (sym (marked-last (a + 1) (coming c a) (nextOf a n) mark))
 
     pub decide : {p : ℕ} → p ≡ prevOf a n → Decided n c a p mark″ r
     decide {p} g = record {
       answer = rw (whole r (t .answer) (t .off)) (rw (← all-marked) at (taken-paired e m));
       marks = λ z.
           rw (t .off z, all-marked)
-          (marks-marked 0 (after c a) (omega arith)
+          (marks-marked 0 (leaving c a) (omega arith)
           (marks-marked (a + 1) (comesFrom n c a) (omega arith) (marks-above (omega arith) m)));
     }
       where
         last : taken (a + 1) (goesTo n c a) (set mark′ q (a + 1))
-            ≡ (taken (a + 1) (after c a) (set mark′ q (a + 1))
-            && eqb (getD (marked 0 (after c a) (set mark′ q (a + 1))) (prevOf a n) 0) (a + 1))
-        last = taken-last (a + 1) (after c a) (prevOf a n) (set mark′ q (a + 1))
+            ≡ (taken (a + 1) (leaving c a) (set mark′ q (a + 1))
+            && eqb (getD (marked 0 (leaving c a) (set mark′ q (a + 1))) (prevOf a n) 0) (a + 1))
+        last = taken-last (a + 1) (leaving c a) (prevOf a n) (set mark′ q (a + 1))
 
-        whole : (b : Bool) → b ≡ taken (a + 1) (after c a) (set mark′ q (a + 1))
-            → (b ≡ true → mark″ ≡ marked 0 (after c a) (set mark′ q (a + 1)))
+        whole : (b : Bool) → b ≡ taken (a + 1) (leaving c a) (set mark′ q (a + 1))
+            → (b ≡ true → mark″ ≡ marked 0 (leaving c a) (set mark′ q (a + 1)))
             → (b && eqb (getD mark″ p 0) (a + 1)) ≡ taken (a + 1) (goesTo n c a) (set mark′ q (a + 1))
         whole true x y = sym (last ∙ rw (← x, ← y refl, g))
         whole false x y = sym (last ∙ rw (← x))

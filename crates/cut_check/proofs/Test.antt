@@ -13,19 +13,15 @@ use lib.Ieee.Bits.{is-true}
 use lib.ListN.{length, getD}
 use Rattle.places.specs.Lists.{Each}
 use Rattle.places.specs.Loops.{anyOf, oneIf}
-use Rattle.places.specs.Ring.{sides, placesOf}
+use Rattle.places.specs.Ring.{sides, placesBelow}
 use Rattle.exact.specs.Sides.{allSides, count, runs, everySide}
 use Rattle.exact.specs.Facing.{occurs, doubled}
 use Rattle.exact.proofs.Test.{every-at, every-all}
-use Rattle.exact.proofs.Conditions.{or-is, none-each, doubled-is}
+use Rattle.exact.proofs.Conditions.{and-is, or-is, none-each, doubled-is}
 use Rattle.cut_check.specs.CutCheck.{Different, faceSide, notDifferent, ownWay, eachWay, isCutOf, CutTest}
-use Rattle.cut_check.proofs.Rings.{count-face}
+use Rattle.cut_check.proofs.FaceSides.{count-face}
 
 -- ---- yes and no
-and-is : (a b : Bool) → (a && b ≡ true) ↔ ((a ≡ true) × (b ≡ true))
-and-is true b = (λ e. (refl, e), λ p. p .1)
-and-is false b = (λ e. (e, cc), λ p. p .0)
-
 number-is : (a n : ℕ) → (eqb a n ≡ true) ↔ (a ≡ n)
 number-is a n = (eqb-true a n, eq-eqb a n)
 
@@ -50,7 +46,7 @@ every-is p l = (
   λ h. is-true (everySide p l) (every-all p l (λ i j o. rw (h i j o) tt)),
 )
 
--- ---- the four sentences
+-- ---- the parts of `IsCut`
 pub different-is : (t : List ℕ) → (notDifferent t ≡ false) ↔ Different t
 unfolding notDifferent
 different-is t = (
@@ -74,10 +70,10 @@ module _ (n : ℕ) (ts : List (List ℕ)) where
   abbrev Other : Type 0
   Other = (i j : ℕ) → faceSide n i j ≡ false → faceSide n j i ≡ false → 0 < occurs i j ts → (runs i j ts ≡ 1) × (runs j i ts ≡ 1)
 
-  own-is : (everySide (ownWay ts) (sides (placesOf n)) ≡ true) ↔ Own
+  own-is : (everySide (ownWay ts) (sides (placesBelow n)) ≡ true) ↔ Own
   unfolding ownWay
   own-is =
-      let every = every-is (ownWay ts) (sides (placesOf n)) in (
+      let every = every-is (ownWay ts) (sides (placesBelow n)) in (
         λ e i j f. two-are (runs i j ts) (runs j i ts) 1 0 .0 (every .0 e i j (rw (count-face n i j, f) (omega arith))),
         λ h. every .1 (λ i j o.
             two-are (runs i j ts) (runs j i ts) 1 0 .1 (h i j (one-if (faceSide n i j) (rw count-face at o)))),
@@ -102,7 +98,7 @@ pub cut-test : CutTest
 unfolding isCutOf
 cut-test n ts =
     let number = and-is (eqb (length ts + 2) n) (not (anyOf notDifferent ts)) in
-    let ways = and-is (everySide (ownWay ts) (sides (placesOf n))) (everySide (eachWay n ts) (allSides ts)) in
+    let ways = and-is (everySide (ownWay ts) (sides (placesBelow n))) (everySide (eachWay n ts) (allSides ts)) in
     let first = Iff·trans number (Iff·and (number-is (length ts + 2) n) (all-different ts)) in
     let second = Iff·trans ways (Iff·and (own-is n ts) (other-is n ts)) in
     let all = Iff·trans (and-is (eqb (length ts + 2) n && not (anyOf notDifferent ts)) _) (Iff·and first second) in (

@@ -9,7 +9,7 @@ use lib.Dec.{eqb, ltb}
 use lib.ListN.{length}
 use Rattle.places.specs.Lists.{Each}
 use Rattle.places.specs.Loops.{anyOf}
-use Rattle.places.specs.Ring.{sides, nextOf, placesOf}
+use Rattle.places.specs.Ring.{sides, nextOf, placesBelow}
 use Rattle.exact.specs.Sides.{allSides, runs, everySide}
 use Rattle.exact.specs.Facing.{occurs, Single, doubled}
 
@@ -43,15 +43,15 @@ notDifferent t = not (eqb (length t) 3) || doubled t
 unfoldable pub ownWay : List (List ℕ) → ℕ → ℕ → Bool
 ownWay ts i j = eqb (runs i j ts) 1 && eqb (runs j i ts) 0
 
--- the side from i to j is the face's, or occurs once each way
+-- the side from i to j, or its reverse, is the face's, or it occurs once each way
 unfoldable pub eachWay : ℕ → List (List ℕ) → ℕ → ℕ → Bool
 eachWay n ts i j = (faceSide n i j || faceSide n j i) || (eqb (runs i j ts) 1 && eqb (runs j i ts) 1)
 
--- all three sentences
+-- every part of `IsCut`
 unfoldable pub isCutOf : ℕ → List (List ℕ) → Bool
 isCutOf n ts =
     (eqb (length ts + 2) n && not (anyOf notDifferent ts))
-    && (everySide (ownWay ts) (sides (placesOf n)) && everySide (eachWay n ts) (allSides ts))
+    && (everySide (ownWay ts) (sides (placesBelow n)) && everySide (eachWay n ts) (allSides ts))
 
 -- the test answers yes exactly where the triangles are a cut, for any n and any lists
 abbrev pub CutTest : Type 0

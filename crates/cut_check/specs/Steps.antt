@@ -9,21 +9,21 @@ use lib.Dec.{eqb, ltb}
 use lib.ListN.{length, getD, set}
 use Rattle.places.specs.Limits.{mostCheckedTriangles}
 use Rattle.places.specs.Lists.{Each}
-use Rattle.places.specs.Loops.{oneIf}
+use Rattle.places.specs.Loops.{oneIf, countOf}
 use Rattle.exact.specs.Sides.{runs}
 use Rattle.cut_check.specs.CutCheck.{faceSide}
 
 -- how many sides run from i to j, over the triangles and the face backward
-unfoldable pub beside : ℕ → List (List ℕ) → ℕ → ℕ → ℕ
-beside n ts i j = runs i j ts + oneIf (faceSide n j i)
+unfoldable pub runsBeside : ℕ → List (List ℕ) → ℕ → ℕ → ℕ
+runsBeside n ts i j = runs i j ts + oneIf (faceSide n j i)
 
 -- from each place i to each j at most one side runs, and only where one comes back
 pub record Paired (n : ℕ) (ts : List (List ℕ)) : Type 0 where
-  pub pairs : (i j : ℕ) → i < n → beside n ts i j ≤ oneIf (ltb 0 (beside n ts j i))
+  pub pairs : (i j : ℕ) → i < n → runsBeside n ts i j ≤ oneIf (ltb 0 (runsBeside n ts j i))
 
 -- the same from the place i alone
 pub record PairedAt (n : ℕ) (ts : List (List ℕ)) (i : ℕ) : Type 0 where
-  pub pairs : (j : ℕ) → beside n ts i j ≤ oneIf (ltb 0 (beside n ts j i))
+  pub pairs : (j : ℕ) → runsBeside n ts i j ≤ oneIf (ltb 0 (runsBeside n ts j i))
 
 -- ---- corners
 -- the corner after s in its triangle, and the one before it
@@ -48,12 +48,11 @@ cornersAt a corners (suc s) =
     cond (eqb (getD corners s 0) a) (s ∷ earlier) earlier
 
 -- how often a place stands in a list
-unfoldable pub times : ℕ → List ℕ → ℕ
-times b [] = 0
-times b (x ∷ xs) = oneIf (eqb x b) + times b xs
+abbrev pub times : ℕ → List ℕ → ℕ
+times b places = countOf (λ x. eqb x b) places
 
--- the corners of as many triangles as are checked, of places below n
-pub record Corners (n : ℕ) (corners : List ℕ) : Type 0 where
+-- the corners of at most 254 triangles, each of a place below n
+pub record CheckedCorners (n : ℕ) (corners : List ℕ) : Type 0 where
   pub threes : length corners % 3 ≡ 0
   pub few : length corners ≤ 3 * mostCheckedTriangles
   pub below : Each 0 (λ p. p < n) corners

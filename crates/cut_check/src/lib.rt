@@ -14,7 +14,7 @@ ghost use Rattle.places.specs.Loops.{anyOf};
 ghost use Rattle.places.specs.Stored.{inThrees};
 ghost use Rattle.exact.specs.Facing.{doubled};
 ghost use Rattle.cut_check.specs.CutCheck.{notDifferent, isCutOf};
-ghost use Rattle.cut_check.specs.Steps.{Paired, PairedAt, afterOf, beforeOf, placeAfter, placeBefore, cornersAt, Corners};
+ghost use Rattle.cut_check.specs.Steps.{Paired, PairedAt, afterOf, beforeOf, placeAfter, placeBefore, cornersAt, CheckedCorners};
 ghost use Rattle.cut_check.specs.Steps.{Chain, Backward, Lists, Marks, Zeros, marked, Took};
 
 // The corner after s in its triangle, and the one before it.
@@ -53,7 +53,7 @@ fn two_same(a: usize, b: usize, c: usize) -> bool
     b == c
 }
 
-// Whether a triangle has not three different places.
+// Whether any triangle has a place twice.
 fn any_same(corners: &[u32]) -> bool
     ensures { λ r. ⌜ r ≡ anyOf notDifferent (inThrees (old corners)) ⌝ }
 {
@@ -73,7 +73,7 @@ fn any_same(corners: &[u32]) -> bool
 
 // Each corner becomes the first of the chain of its place.
 fn link(head: &mut [u16], next: &mut [u16], corners: &[u32])
-    requires { ⌜ Corners (length (now head)) (now corners) × (length (now next) ≡ length (now corners)) ⌝ }
+    requires { ⌜ CheckedCorners (length (now head)) (now corners) × (length (now next) ≡ length (now corners)) ⌝ }
     requires { ⌜ Zeros (now head) × Zeros (now next) ⌝ }
     ensures { λ _. ⌜ Backward (new next) (old corners) × Lists (new head) (new next) (old corners) (length (old corners)) ⌝ }
 {
@@ -89,7 +89,7 @@ fn link(head: &mut [u16], next: &mut [u16], corners: &[u32])
 
 // The places from which a side comes to that of a chain are marked.
 fn mark_before(mark: &mut [u16], next: &[u16], corners: &[u32], first: usize, stamp: u16)
-    requires { ⌜ Corners (length (now mark)) (now corners) × Backward (now next) (now corners) ⌝ }
+    requires { ⌜ CheckedCorners (length (now mark)) (now corners) × Backward (now next) (now corners) ⌝ }
     requires { ⌜ first ≤ length (now corners) ⌝ }
     ensures { λ _. ⌜ ((ps : List ℕ) → Chain (old next) first ps
         → new mark ≡ marked stamp (map (placeBefore (old corners)) ps) (old mark)) ⌝ }
@@ -104,7 +104,7 @@ fn mark_before(mark: &mut [u16], next: &[u16], corners: &[u32], first: usize, st
 
 // Whether the sides that leave the place of a chain go to marked places, each to another: a mark that is used is taken off.
 fn take_after(mark: &mut [u16], next: &[u16], corners: &[u32], first: usize, stamp: u16) -> bool
-    requires { ⌜ Corners (length (now mark)) (now corners) × Backward (now next) (now corners) ⌝ }
+    requires { ⌜ CheckedCorners (length (now mark)) (now corners) × Backward (now next) (now corners) ⌝ }
     requires { ⌜ first ≤ length (now corners) ⌝ }
     ensures { λ r. ⌜ ((ps : List ℕ) → Chain (old next) first ps
         → Took stamp (map (placeAfter (old corners)) ps) (old mark) (new mark) r) ⌝ }
@@ -131,7 +131,7 @@ fn paired_at(
     a: usize,
     n: usize,
 ) -> bool
-    requires { ⌜ Corners n (now corners) × Backward (now next) (now corners) × (n ≤ mostCheckedCorners) × (a < n) ⌝ }
+    requires { ⌜ CheckedCorners n (now corners) × Backward (now next) (now corners) × (n ≤ mostCheckedCorners) × (a < n) ⌝ }
     requires { ⌜ Chain (now next) first (cornersAt a (now corners) (length (now corners))) ⌝ }
     requires { ⌜ (length (now mark) ≡ n) × Marks a (now mark) ⌝ }
     ensures { λ r. ⌜ (r ≡ true) ↔ PairedAt n (inThrees (old corners)) a ⌝ }
@@ -146,9 +146,9 @@ fn paired_at(
     mark[places::prev(a, n)] == stamp
 }
 
-// The same at each place. Marks are not taken off between places: each place has a stamp of its own.
+// Whether it is so at each place. What a place leaves marked needs no clearing, since each place has a stamp of its own.
 fn paired(mark: &mut [u16], head: &[u16], next: &[u16], corners: &[u32], n: usize) -> bool
-    requires { ⌜ Corners n (now corners) × Backward (now next) (now corners) × (n ≤ mostCheckedCorners) ⌝ }
+    requires { ⌜ CheckedCorners n (now corners) × Backward (now next) (now corners) × (n ≤ mostCheckedCorners) ⌝ }
     requires { ⌜ (length (now head) ≡ n) × Lists (now head) (now next) (now corners) (length (now corners)) ⌝ }
     requires { ⌜ (length (now mark) ≡ n) × Zeros (now mark) ⌝ }
     ensures { λ r. ⌜ (r ≡ true) ↔ Paired n (inThrees (old corners)) ⌝ }
@@ -172,7 +172,7 @@ fn paired_in(
     corners: &[u32],
     n: usize,
 ) -> bool
-    requires { ⌜ Corners n (now corners) × (n ≤ mostCheckedCorners) ⌝ }
+    requires { ⌜ CheckedCorners n (now corners) × (n ≤ mostCheckedCorners) ⌝ }
     requires { ⌜ (length (now head) ≡ n) × (length (now mark) ≡ n) × (length (now next) ≡ length (now corners)) ⌝ }
     requires { ⌜ Zeros (now head) × Zeros (now mark) × Zeros (now next) ⌝ }
     ensures { λ r. ⌜ (r ≡ true) ↔ Paired n (inThrees (old corners)) ⌝ }
@@ -181,9 +181,10 @@ fn paired_in(
     paired(mark, head, next, corners, n)
 }
 
-// The same with lists of its own. One function a size: a small face does not clear the lists of a large one.
+// Whether each side occurs once each way, with lists of its own. One function a size: a small face does not clear the lists of a large
+// one.
 fn paired_16(corners: &[u32], n: usize) -> bool
-    requires { ⌜ Corners n (now corners) × (n ≤ 16) × (length (now corners) / 3 + 2 ≡ n) ⌝ }
+    requires { ⌜ CheckedCorners n (now corners) × (n ≤ 16) × (length (now corners) / 3 + 2 ≡ n) ⌝ }
     ensures { λ r. ⌜ (r ≡ true) ↔ Paired n (inThrees (old corners)) ⌝ }
 {
     let m = corners.len();
@@ -194,7 +195,7 @@ fn paired_16(corners: &[u32], n: usize) -> bool
 }
 
 fn paired_64(corners: &[u32], n: usize) -> bool
-    requires { ⌜ Corners n (now corners) × (n ≤ 64) × (length (now corners) / 3 + 2 ≡ n) ⌝ }
+    requires { ⌜ CheckedCorners n (now corners) × (n ≤ 64) × (length (now corners) / 3 + 2 ≡ n) ⌝ }
     ensures { λ r. ⌜ (r ≡ true) ↔ Paired n (inThrees (old corners)) ⌝ }
 {
     let m = corners.len();
@@ -205,13 +206,13 @@ fn paired_64(corners: &[u32], n: usize) -> bool
 }
 
 fn paired_256(corners: &[u32], n: usize) -> bool
-    requires { ⌜ Corners n (now corners) × (n ≤ mostCheckedCorners) × (length (now corners) / 3 + 2 ≡ n) ⌝ }
+    requires { ⌜ CheckedCorners n (now corners) × (n ≤ mostCheckedCorners) × (length (now corners) / 3 + 2 ≡ n) ⌝ }
     ensures { λ r. ⌜ (r ≡ true) ↔ Paired n (inThrees (old corners)) ⌝ }
 {
     let m = corners.len();
-    let mut head = [0u16; 256];
-    let mut mark = [0u16; 256];
-    let mut next = [0u16; 762];
+    let mut head = [0u16; places::limits::MOST_CHECKED_CORNERS];
+    let mut mark = [0u16; places::limits::MOST_CHECKED_CORNERS];
+    let mut next = [0u16; 3 * places::limits::MOST_CHECKED_TRIANGLES];
     paired_in(&mut head[..n], &mut mark[..n], &mut next[..m], corners, n)
 }
 

@@ -8,12 +8,12 @@ use Prim.Native.Nat.{ℕ, _+_, _-_, _<_, _≤_}
 use native.Mathlib.Omega.{arith}
 use lib.Dec.{eqb}
 use lib.ListN.{length, getD, take, drop}
+use lib.Seq.{take-at}
 use Rattle.places.specs.Lists.{Each}
-use Rattle.places.specs.Ring.{walk, placesOf}
+use Rattle.places.specs.Ring.{walk, placesBelow}
 use Rattle.places.specs.Stored.{inThrees, joined}
-use Rattle.places.proofs.Lists.{each-nil, each-append, each-head, each-tail}
 use Rattle.places.proofs.Rings.{length-places, place-at}
-use Rattle.places.proofs.Stored.{threes-joined, length-joined}
+use Rattle.places.proofs.Stored.{each-joined, threes-joined, length-joined}
 use Rattle.exact.specs.Space.{V3, vectorSum, cross, area, areas}
 use Rattle.exact.proofs.Volume.{Three}
 use Rattle.flat.specs.Points.{Point, verticesOf, cornersOf}
@@ -39,29 +39,24 @@ yes-is : (n : ℕ) (places : List ℕ) → YesForCuts n places (checkCutAnswer n
 yes-is n places = yes-for-cuts n places refl
 
 -- ---- our own cut passes the checks
-each-joined : {P : ℕ → Type 0} (ts : List (List ℕ)) → Each [] (Each 0 P) ts → Each 0 P (joined ts)
-unfolding joined
-each-joined [] e = each-nil
-each-joined (t ∷ ts) e = each-append t (joined ts) (each-head e) (each-joined ts (each-tail e))
-
 module _ (vs : List Point) (face : List ℕ) (low : 3 ≤ length face) (high : length face ≤ 256) where
   abbrev ours : List (List ℕ)
   ours = cutByPlace vs face .triangles
 
   our-threes : Each [] Three ours
   unfolding cutByPlace
-  our-threes = cut-threes (cornersOf vs face) (placesOf (length face))
+  our-threes = cut-threes (cornersOf vs face) (placesBelow (length face))
 
   our-places : Each [] (Each 0 (λ p. p < length face)) ours
   unfolding cutByPlace
   our-places =
       let many = length-places (length face) in
-      cut-each (cornersOf vs face) (placesOf (length face))
+      cut-each (cornersOf vs face) (placesBelow (length face))
       (record { holds = λ k h. rw (place-at (length face) k (omega arith)) (omega arith) })
 
   our-room : length ours ≤ length face - 2
   unfolding cutByPlace
-  our-room = omega (arith, cut-room (cornersOf vs face) (placesOf (length face)), length-places (length face))
+  our-room = omega (arith, cut-room (cornersOf vs face) (placesBelow (length face)), length-places (length face))
 
   our-list : inThrees (joined ours) ≡ ours
   our-list = threes-joined ours our-threes
@@ -96,10 +91,6 @@ written-is false why out ts after m e =
     let count : Count.Is m ≡ Count.Refused why = ap (λ (x : Count × List (List ℕ)). x .0) e in
     absurd (let z : _≡_ {A = ℕ} 0 1 = cc in omega arith)
 
-take-front : {A : Type 0} (xs ys : List A) → take (length xs) (xs ++ ys) ≡ xs
-take-front [] ys = refl
-take-front (x ∷ xs) ys = ap (λ l. x ∷ l) (take-front xs ys)
-
 pub own-entry : OwnEntry
 unfolding trianglePlacesAnswer
 own-entry coords corners ends k out after m e low high =
@@ -107,7 +98,7 @@ own-entry coords corners ends k out after m e low high =
     let face = faceNumbered corners ends k in
     let ts = cutByPlace vs face .triangles in
     let w = written-is (eqb (trianglesRefusal coords corners ends k (length out)) 0) _ out ts after m e in
-    let front : take m after ≡ ts = rw (w .0, w .1) (take-front ts (drop (length ts) out)) in
+    let front : take m after ≡ ts = rw (w .1) (take-at ts (drop (length ts) out) m (sym (w .0))) in
     let full = accepted-is-full vs face low high in
     let many = by-place-long vs face in
     rw front (λ y. omega (arith, w .0, full .0 y low), λ n. full .1 (λ _. omega (arith, w .0)))
@@ -141,4 +132,4 @@ pub accepted-face : AcceptedFace
 accepted-face vs face places e =
     let at = placeOf vs in
     sym (areas-looked at face (inThrees places)) ∙ accepted-has-area (length face) places e (λ k. at (getD face k 0))
-    ∙ area-looked at face (placesOf (length face)) ∙ ap (area at) (places-ring vs face)
+    ∙ area-looked at face (placesBelow (length face)) ∙ ap (area at) (places-ring vs face)

@@ -9,7 +9,7 @@ use native.Mathlib.Omega.{arith}
 use borrow.Author.Tests.{ne-eqb}
 use lib.ListN.{length, getD}
 use Rattle.places.specs.Lists.{Each, without}
-use Rattle.places.specs.Ring.{sides, nextOf, prevOf, before, after, placesOf, earOf}
+use Rattle.places.specs.Ring.{sides, nextOf, prevOf, before, after, placesBelow, earOf}
 use Rattle.places.proofs.Lists.{length-without, each-nil, each-cons, each-without}
 use Rattle.places.proofs.Rings.{prev-below, next-below, each-ear, length-places}
 use Rattle.exact.specs.Sides.{count, runs}
@@ -23,9 +23,11 @@ use Rattle.flat.specs.Points.{Point}
 use Rattle.cut.specs.Cut.{cutOf}
 use Rattle.cut.proofs.Facts.{Ends, few, full, short, choice, cut-all, cut-ends}
 use Rattle.cut_check.specs.CutCheck.{Different, IsCut}
-use Rattle.cut_check.specs.Steps.{beside}
-use Rattle.cut_check.proofs.Rings.{SideOf, side-of, no-side, no-start, no-end, next-apart, next-next, next-thrice, next-prev}
-use Rattle.cut_check.proofs.Rings.{one-place, once-round, not-back, single-places, count-face}
+use Rattle.cut_check.specs.Steps.{runsBeside}
+use Rattle.places.proofs.Rings.{next-apart, next-next, next-thrice, next-prev}
+use Rattle.exact.proofs.RingSides.{SideOf, side-of, no-side, no-start, no-end}
+use Rattle.exact.proofs.RingSides.{one-place, once-round, not-back}
+use Rattle.cut_check.proofs.FaceSides.{single-places, count-face}
 use Rattle.cut_check.proofs.Pairs.{OnceEachWay, even-cut}
 
 -- ---- a ring of different places without one of them
@@ -193,26 +195,27 @@ cut-good vs face = cut-all vs face (λ r c. 3 ≤ length r → Single r → c .l
 })
 
 -- ---- a face that is cut to its end
-good-even : (n : ℕ) (ts : List (List ℕ)) → 3 ≤ n → Good (placesOf n) ts → OnceEachWay n ts
-unfolding beside
+good-even : (n : ℕ) (ts : List (List ℕ)) → 3 ≤ n → Good (placesBelow n) ts → OnceEachWay n ts
+unfolding runsBeside
 good-even n ts h g = record {
   back = λ i j. omega (arith, g .even i j, count-face n i j, count-face n j i);
   once = λ i j.
       let back = count-face n j i in
-      by-cases (decLt 0 (count j i (sides (placesOf n))))
+      by-cases (decLt 0 (count j i (sides (placesBelow n))))
       (λ o.
-      let away = not-back (placesOf n) (single-places n) (omega (arith, length-places n)) j i o in
-      omega (arith, g .even i j, g .once j i, once-round (placesOf n) (single-places n) j i))
+      let away = not-back (placesBelow n) (single-places n) (omega (arith, length-places n)) j i o in
+      omega (arith, g .even i j, g .once j i, once-round (placesBelow n) (single-places n) j i))
       (λ o. omega (arith, g .once i j));
 }
 
-pub own-cut : (vs : List Point) (n : ℕ) → 3 ≤ n → cutOf vs (placesOf n) .left ≡ [] → IsCut n (cutOf vs (placesOf n) .triangles)
+pub own-cut : (vs : List Point) (n : ℕ) → 3 ≤ n → cutOf vs (placesBelow n) .left ≡ [] → IsCut n (cutOf vs (placesBelow n) .triangles)
 own-cut vs n h e =
     let many = length-places n in
-    let good = cut-good vs (placesOf n) (omega arith) (single-places n) e in
-    even-cut n (cutOf vs (placesOf n) .triangles) h (number (cut-ends vs (placesOf n))) (good .different) (good-even n _ h good)
+    let good = cut-good vs (placesBelow n) (omega arith) (single-places n) e in
+    even-cut n (cutOf vs (placesBelow n) .triangles) h (number (cut-ends vs (placesBelow n))) (good .different) (good-even n _ h good)
   where
-    number : Ends (choice vs (placesOf n)) (placesOf n) (cutOf vs (placesOf n)) → length (cutOf vs (placesOf n) .triangles) + 2 ≡ n
+    number : Ends (choice vs (placesBelow n)) (placesBelow n) (cutOf vs (placesBelow n))
+        → length (cutOf vs (placesBelow n) .triangles) + 2 ≡ n
     number (few a b c) = absurd (omega (arith, length-places n))
     number (full a b) = omega (arith, length-places n)
     number (short a b c) = absurd (omega (arith, ap length e))

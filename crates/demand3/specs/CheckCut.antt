@@ -10,7 +10,7 @@ use Prim.Native.Nat.{ℕ, _+_, _≤_}
 use lib.ListN.{length, take}
 use lib.Ieee.{Float}
 use Rattle.places.specs.Limits.{mostCheckedCorners}
-use Rattle.places.specs.Ring.{placesOf}
+use Rattle.places.specs.Ring.{placesBelow}
 use Rattle.places.specs.Stored.{inThrees, joined}
 use Rattle.exact.specs.Space.{V3, area, areas}
 use Rattle.flat.specs.Points.{Point}
@@ -22,8 +22,8 @@ use Rattle.geometry.specs.CheckCut.{checkCutAnswer}
 use Rattle.demand3.specs.Demand3.{Full}
 use Rattle.demand3.specs.Area.{areaOf, areasOf}
 
--- 'Whatever our own cut gives for a fully cut face of 3 to 256 corners is accepted.' It is for no other: what is cut short has too few
--- triangles
+-- 'Whatever our own cut gives for a fully cut face of 3 to 256 corners is accepted.' Of a face that is cut short it is not: there are too
+-- few triangles
 abbrev pub OwnCut : Type 0
 OwnCut =
     (vs : List Point) (face : List ℕ) → 3 ≤ length face → length face ≤ mostCheckedCorners →
@@ -42,7 +42,8 @@ OwnEntry =
 -- numbers at the places: `at` says where a place is
 abbrev pub AcceptedArea : Type 0
 AcceptedArea =
-    (n : ℕ) (places : List ℕ) → checkCutAnswer n places ≡ Truth.Is true → (at : ℕ → V3) → areas at (inThrees places) ≡ area at (placesOf n)
+    (n : ℕ) (places : List ℕ) → checkCutAnswer n places ≡ Truth.Is true
+    → (at : ℕ → V3) → areas at (inThrees places) ≡ area at (placesBelow n)
 
 -- so too with vertex numbers: of a face of a cell, with the places of accepted triangles looked up in it. Coordinates are f64, scaled to
 -- whole numbers as in Area.antt

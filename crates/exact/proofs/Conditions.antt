@@ -2,7 +2,7 @@
 -- among all sides, and every choice is, as far as the faces go, one of the lists that are tried.
 use mathlib.Core.Path.{_≡_, refl, sym, _∙_}
 use mathlib.Core.Logic.{_↔_, _≢_, Iff·trans, Iff·and, by-cases}
-use mathlib.Core.Bool.{Bool, true, false, _||_, true≢false, false≢true, cond}
+use mathlib.Core.Bool.{Bool, true, false, _&&_, _||_, true≢false, false≢true, cond}
 use mathlib.Core.List.{List, [], _∷_, _++_, map}
 use Prim.Native.Nat.{ℕ, zero, suc, _<_}
 use native.Mathlib.Decide.{ℕ-discrete, decLt}
@@ -25,6 +25,10 @@ use Rattle.exact.proofs.Test.{closed-test}
 pub or-is : (a b : Bool) → ((a || b) ≡ false) ↔ ((a ≡ false) × (b ≡ false))
 or-is true b = (λ e. (e, cc), λ p. p .0)
 or-is false b = (λ e. (refl, e), λ p. p .1)
+
+pub and-is : (a b : Bool) → (a && b ≡ true) ↔ ((a ≡ true) × (b ≡ true))
+and-is true b = (λ e. (refl, e), λ p. p .1)
+and-is false b = (λ e. (e, cc), λ p. p .0)
 
 -- a test that says no exactly where P holds says yes exactly where it does not
 says-not : {P : Type 0} (b : Bool) → ((b ≡ false) ↔ P) → (b ≡ true) ↔ (P → ⊥)

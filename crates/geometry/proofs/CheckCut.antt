@@ -1,4 +1,4 @@
--- What `check_cut` answers is yes exactly for a cut, since the test of the three sentences is; and `triangle_places` answers the count of
+-- What `check_cut` answers is yes exactly for a cut, since the test of one is; and `triangle_places` answers the count of
 -- `triangles`, since the cut by place is the one cut.
 use mathlib.Core.Path.{_≡_, refl, sym, _∙_, ap}
 use mathlib.Core.Bool.{Bool, true, false, cond}
@@ -21,8 +21,8 @@ use Rattle.geometry.specs.Cells.{faceNumbered, trianglesAnswer, triangle
 use Rattle.geometry.specs.CheckCut.{checkCutAnswer, YesForCuts}
 use Rattle.geometry.proofs.Answers.{passed}
 
-is-true : (a b : Bool) → Truth.Is a ≡ Truth.Is b → a ≡ b
-is-true a b e = cc
+same-truth : (a b : Bool) → Truth.Is a ≡ Truth.Is b → a ≡ b
+same-truth a b e = cc
 
 not-refused : (why : ℕ) (b : Bool) → Truth.Refused why ≡ Truth.Is b → ⊥
 not-refused why b e = let z : _≡_ {A = ℕ} 0 1 = cc in absurd (omega arith)
@@ -40,7 +40,7 @@ yes-for-cuts n places {r} e = (λ t. go (eqb (checkRefusal n places) 0) refl (sy
     go : (b : Bool) → eqb (checkRefusal n places) 0 ≡ b
         → cond b (Truth.Is (isCutOf n (inThrees places))) (Truth.Refused (checkRefusal n places)) ≡ Truth.Is true
         → (checkRefusal n places ≡ 0) × IsCut n (inThrees places)
-    go true p q = (eqb-true (checkRefusal n places) 0 p, cut-test n (inThrees places) .0 (is-true (isCutOf n (inThrees places)) true q))
+    go true p q = (eqb-true (checkRefusal n places) 0 p, cut-test n (inThrees places) .0 (same-truth (isCutOf n (inThrees places)) true q))
     go false p q = absurd (not-refused (checkRefusal n places) true q)
 
     back : (checkRefusal n places ≡ 0) × IsCut n (inThrees places) → r ≡ Truth.Is true

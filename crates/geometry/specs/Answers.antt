@@ -4,8 +4,8 @@ use mathlib.Core.Bool.{cond}
 use Prim.Native.Nat.{ℕ}
 use mathlib.Core.Path.{_≡_}
 use lib.Dec.{eqb}
-use lib.ListN.{getD}
-use mathlib.Core.List.{[]}
+use lib.ListN.{length, getD, drop}
+use mathlib.Core.List.{List, [], _++_}
 use Rattle.flat.specs.Points.{Point, Box, at}
 use Rattle.geometry.specs.declared.Point3.{Point3}
 use Rattle.geometry.specs.declared.Point2.{Point2}
@@ -19,6 +19,10 @@ answered refusal answer refused = cond (eqb refusal 0) answer (refused refusal)
 -- a promise that is one equation with one named answer allows one outcome: two that it allows are equal
 abbrev pub OneAnswer : Type 1
 OneAnswer = (A : Type 0) (answer one other : A) → one ≡ answer → other ≡ answer → one ≡ other
+
+-- a list with values at its front, the places behind them as they were
+abbrev pub front : {A : Type 0} → List A → List A → List A
+front vs list = vs ++ drop (length vs) list
 
 -- the coordinates of a point and of a box by their names, in space and in the plane
 abbrev pub named3 : Point → Point3

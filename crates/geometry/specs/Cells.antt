@@ -2,8 +2,8 @@
 -- ends among them.
 use Prim.Native.Nat.{ℕ}
 use mathlib.Core.Bool.{Bool, true, false}
-use mathlib.Core.List.{List, [], _∷_, _++_}
-use lib.ListN.{length, getD, drop}
+use mathlib.Core.List.{List, [], _∷_}
+use lib.ListN.{length, getD}
 use lib.Ieee.{Float}
 use Rattle.floats.specs.F64.{zero64}
 use Rattle.flat.specs.Points.{Point, verticesOf, cornersOf, centroidOf, boundsOf, scaleOf}
@@ -30,7 +30,7 @@ use Rattle.geometry.specs.declared.Described.{Described}
 use Rattle.geometry.specs.declared.Plane.{Plane}
 use Rattle.geometry.specs.declared.PlaneAnswer.{PlaneAnswer}
 use Rattle.geometry.specs.declared.FacePlane.{FacePlane}
-use Rattle.geometry.specs.Answers.{answered, named3, bounds3}
+use Rattle.geometry.specs.Answers.{answered, front, named3, bounds3}
 
 -- volume: |v6| / 6, about the vertex centroid
 unfoldable pub volumeAnswer : List Float → List ℕ → List ℕ → Number
@@ -116,9 +116,9 @@ planeOfFaceAnswer coords corners ends k =
     let plane = planeShown (planeOf (cornersOf (verticesOf coords) (faceNumbered corners ends k))) in
     answered (facesRefusal coords corners ends (k ∷ [])) (record { answer = PlaneAnswer.Is; plane = plane }) refusedPlane
 
--- triangles in a lent list: how many they are, and the list afterwards, with these at its front and the places behind them as they were
+-- triangles in a lent list: how many they are, and the list afterwards
 abbrev pub inFront : List (List ℕ) → List (List ℕ) → Count × List (List ℕ)
-inFront out ts = (Count.Is (length ts), ts ++ drop (length ts) out)
+inFront out ts = (Count.Is (length ts), front ts out)
 
 -- triangles: those of the face k, by vertex number
 unfoldable pub trianglesAnswer : List Float → List ℕ → List ℕ → ℕ → List (List ℕ) → Count × List (List ℕ)

@@ -11,7 +11,7 @@ use Rattle.refusals.specs.Refusals.{checkRefusal}
 use Rattle.geometry.specs.declared.Truth.{Truth}
 use Rattle.geometry.specs.Answers.{answered}
 
--- check_cut: the test of the three sentences, or the refusal
+-- check_cut: whether the triangles are a cut, as a test, or the refusal
 unfoldable pub checkCutAnswer : ℕ → List ℕ → Truth
 checkCutAnswer n places = answered (checkRefusal n places) (Truth.Is (isCutOf n (inThrees places))) Truth.Refused
 

@@ -3,9 +3,9 @@
 use Prim.Native.Nat.{ℕ}
 use mathlib.Core.Path.{_≡_}
 use mathlib.Core.Bool.{Bool, true, false, _||_, cond}
-use mathlib.Core.List.{List, [], _∷_, _++_}
+use mathlib.Core.List.{List, [], _∷_}
 use lib.Dec.{ltb, eqb}
-use lib.ListN.{length, drop, replicate}
+use lib.ListN.{length, replicate}
 use lib.Ieee.{Float}
 use Rattle.places.specs.Loops.{oneIf}
 use Rattle.floats.specs.F64.{zero64}
@@ -25,6 +25,7 @@ use Rattle.geometry.specs.declared.Convexity.the-variants.{Convex, Conca
 use Rattle.geometry.specs.declared.PlaneAnswer.{PlaneAnswer}
 use Rattle.geometry.specs.declared.FacePlane.{FacePlane}
 use Rattle.geometry.specs.declared.Clipped.{Clipped}
+use Rattle.geometry.specs.Answers.{front}
 use Rattle.geometry.specs.Cells.{trianglesAnswer, trianglePlacesAnswer}
 use Rattle.geometry.specs.Points.{toLocalAnswer}
 use Rattle.geometry.specs.TurnFaces.{canTurnAnswer, TurnFacesGives}
@@ -37,10 +38,6 @@ pub data Listed : Type 0 where
 -- a list is too short for values
 abbrev pub tooShort : {A : Type 0} → List A → List A → Bool
 tooShort vs list = ltb (length list) (length vs)
-
--- the list with the values at its front, the places behind them as they were
-abbrev pub front : {A : Type 0} → List A → List A → List A
-front vs list = vs ++ drop (length vs) list
 
 -- what a caller gets: a code, a list of numbers and a list of counts
 abbrev pub Reply : Type 0
@@ -152,15 +149,15 @@ clippingTold c shown =
 abbrev pub measureTold : Number × List Float × List Float → List Float → ℕ × List Float × List Float × List Float
 measureTold m out = (written (ofNumber (m .0)) out [] .0, written (ofNumber (m .0)) out [] .1, m .1, m .2)
 
--- triangles in a lent list, as `answer` gives them for that list, and their number told in `count`: the code and both lists; without a
--- place for the number there is no room for a triangle either
+-- triangles in the list `out`, as `answer` gives them for that list, and their number in the list `count`: the code, and what then stands
+-- in both; where `count` is empty there is no room for a triangle either
 abbrev pub countTold : (List (List ℕ) → Count × List (List ℕ)) → List (List ℕ) → List ℕ → ℕ × List (List ℕ) × List ℕ
 countTold answer out count =
     let short = ltb (length count) 1 in
     let a = answer (cond short [] out) in
     (written (ofCount (a .0)) [] count .0, cond short out (a .1), written (ofCount (a .0)) [] count .2)
 
--- by vertex number, and by place
+-- `triangles` under its C name, and `triangle_places`
 abbrev pub trianglesTold : List Float → List ℕ → List ℕ → ℕ → List (List ℕ) → List ℕ → ℕ × List (List ℕ) × List ℕ
 trianglesTold coords corners ends k out count = countTold (trianglesAnswer coords corners ends k) out count
 

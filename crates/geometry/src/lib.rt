@@ -375,7 +375,8 @@ pub fn triangles(
     Count::Is(c.triangles)
 }
 
-// The same triangles by place: each corner by its place in the face, 0 to n - 1, as `check_cut` takes them.
+// The triangles of the face with a number, each corner by its place in the face, 0 to n - 1, as `check_cut` takes them; room is asked for
+// as by `triangles`.
 // Ruled out: the vertex number of a corner; the place of another corner at which the same vertex stands.
 pub fn triangle_places(
     coords: &[f64],
@@ -400,7 +401,7 @@ pub fn triangle_places(
 
 // Whether triangles over the places of a face of n corners, three places each, are a cut of the face: n - 2 of three different places,
 // which run each side of the face once its own way and not back, and every other side that occurs once each way.
-// Ruled out: a triangle that is turned round accepted; a list with one triangle too few accepted; our own cut refused.
+// Ruled out: a triangle that is turned round accepted; a list with one triangle too few accepted.
 pub fn check_cut(n: u32, places: &[u32]) -> Truth
     ensures { λ r. ⌜ r ≡ checkCutAnswer n (old places) ⌝ }
     ensures { λ r. ⌜ YesForCuts n (old places) r ⌝ }

@@ -1,6 +1,7 @@
 -- The places beside a place of a ring are on the ring, and the side at a place runs from there to the next; the loops that go round a ring
 -- need both.
-use mathlib.Core.Path.{_≡_, refl, sym, _∙_, ap}
+use mathlib.Core.Path.{_≡_, refl, _∙_, ap}
+use mathlib.Core.Logic.{_≢_}
 use mathlib.Core.Bool.{Bool, true, false, cond}
 use mathlib.Core.List.{List, [], _∷_, _++_}
 use Prim.Native.Nat.{ℕ, zero, suc, _+_, _-_, _<_, _≤_}
@@ -10,8 +11,8 @@ use native.Mathlib.Numerals.{add-one}
 use lib.Dec.{eqb, ltb}
 use lib.ListN.{length, getD, List·getD-append}
 use lib.Seq.{getD-at}
-use borrow.Author.Tests.{ltb-true, ltb-false, ne-eqb}
-use Rattle.places.specs.Ring.{walk, sides, prevOf, nextOf, placesFrom, placesOf, earOf}
+use borrow.Author.Tests.{ltb-true, ltb-false, eq-eqb, ne-eqb}
+use Rattle.places.specs.Ring.{walk, sides, prevOf, nextOf, placesFrom, placesBelow, earOf}
 use Rattle.places.specs.Lists.{Each}
 use Rattle.places.proofs.Lists.{each-nil, each-cons}
 
@@ -37,6 +38,75 @@ next-below k n h = go (ltb (k + 1) n) refl
     go true e = omega (arith, ltb-true (k + 1) n e)
     go false e = omega arith
 
+-- ---- from a place to the next
+-- the step from i to j, the next place
+data Step (n i j : ℕ) : Type 0 where
+  more : i + 1 < n → j ≡ i + 1 → Step n i j
+  home : i + 1 ≡ n → j ≡ 0 → Step n i j
+
+next-step : (k n : ℕ) → k < n → Step n k (nextOf k n)
+unfolding nextOf
+next-step k n h = go (ltb (k + 1) n) refl
+  where
+    go : (b : Bool) → ltb (k + 1) n ≡ b → Step n k (cond b (k + 1) 0)
+    go true e = more (ltb-true (k + 1) n e) refl
+    go false e = home (omega (arith, ltb-false (k + 1) n e)) refl
+
+one-step : {n i j : ℕ} → 2 ≤ n → Step n i j → j ≢ i
+one-step h (more a b) e = omega arith
+one-step h (home a b) e = omega arith
+
+two-steps : {n i j k : ℕ} → 3 ≤ n → Step n i j → Step n j k → k ≢ i
+two-steps h (more a b) (more c d) e = omega arith
+two-steps h (more a b) (home c d) e = omega arith
+two-steps h (home a b) (more c d) e = omega arith
+two-steps h (home a b) (home c d) e = omega arith
+
+three-steps : {n i j k l : ℕ} → 4 ≤ n → Step n i j → Step n j k → Step n k l → l ≢ i
+three-steps h (more a b) (more c d) (more f g) e = omega arith
+three-steps h (more a b) (more c d) (home f g) e = omega arith
+three-steps h (more a b) (home c d) (more f g) e = omega arith
+three-steps h (more a b) (home c d) (home f g) e = omega arith
+three-steps h (home a b) (more c d) (more f g) e = omega arith
+three-steps h (home a b) (more c d) (home f g) e = omega arith
+three-steps h (home a b) (home c d) s e = omega arith
+
+module _ (k n : ℕ) (l : k < n) where
+  -- a place, the one after it and the one after that are different, and in a ring of four or more so is the next after those
+  pub next-apart : 2 ≤ n → nextOf k n ≢ k
+  next-apart h = one-step h (next-step k n l)
+
+  pub next-next : 3 ≤ n → nextOf (nextOf k n) n ≢ k
+  next-next h = two-steps h (next-step k n l) (next-step (nextOf k n) n (next-below k n l))
+
+  pub next-thrice : 4 ≤ n → nextOf (nextOf (nextOf k n) n) n ≢ k
+  next-thrice h =
+      let j = nextOf k n in
+      let below = next-below k n l in
+      three-steps h (next-step k n l) (next-step j n below) (next-step (nextOf j n) n (next-below j n below))
+
+pub next-prev : (k n : ℕ) → k < n → nextOf (prevOf k n) n ≡ k
+unfolding prevOf
+next-prev zero n l = go (next-step (n - 1) n (omega arith))
+  where
+    go : {j : ℕ} → Step n (n - 1) j → j ≡ 0
+    go (more a b) = absurd (omega arith)
+    go (home a b) = b
+next-prev (suc k) n l = rw (prev-suc k n) (go (next-step k n (omega arith)))
+  where
+    go : {j : ℕ} → Step n k j → j ≡ suc k
+    go (more a b) = omega arith
+    go (home a b) = absurd (omega arith)
+
+pub prev-next : (k n : ℕ) → k < n → prevOf (nextOf k n) n ≡ k
+unfolding prevOf
+prev-next k n l = go (next-step k n l)
+  where
+    go : {j : ℕ} → Step n k j → prevOf j n ≡ k
+    go {j} (more a b) = rw (ne-eqb j 0 (λ e. omega arith)) (omega arith)
+    go {j} (home a b) = rw (eq-eqb j 0 b) (omega arith)
+
+-- ---- corners and places
 -- what holds of a ring's corners holds of those of its triangle at k
 pub each-ear : {P : ℕ → Type 0} (k : ℕ) (l : List ℕ) → k < length l → Each 0 P l → Each 0 P (earOf k l)
 unfolding earOf
@@ -54,12 +124,12 @@ from-at zero i k h = absurd (not-suc-le-zero h)
 from-at (suc left) i zero h = omega arith
 from-at (suc left) i (suc k) h = from-at left (i + 1) k (le-of-suc-le-suc h) ∙ omega arith
 
-pub length-places : (n : ℕ) → length (placesOf n) ≡ n
-unfolding placesOf
+pub length-places : (n : ℕ) → length (placesBelow n) ≡ n
+unfolding placesBelow
 length-places n = length-from n 0
 
-pub place-at : (n k : ℕ) → k < n → getD (placesOf n) k 0 ≡ k
-unfolding placesOf
+pub place-at : (n k : ℕ) → k < n → getD (placesBelow n) k 0 ≡ k
+unfolding placesBelow
 place-at n k h = from-at n 0 k h ∙ omega arith
 
 -- ---- sides

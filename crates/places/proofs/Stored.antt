@@ -8,7 +8,7 @@ use lib.ListN.{length, getD, set, take, drop, length-append}
 use Rattle.places.specs.Lists.{Each}
 use Rattle.places.specs.Stored.{inThrees, inPairs, joined}
 use Rattle.places.specs.Steps.{overThrees, overPairs}
-use Rattle.places.proofs.Lists.{each-head, each-tail}
+use Rattle.places.proofs.Lists.{each-head, each-tail, each-nil, each-append}
 
 module _ {A : Type 0} where
   pub length-threes : (l : List A) → length (inThrees l) ≡ length l / 3
@@ -193,6 +193,12 @@ module _ {A : Type 0} where
   three-of-three (a ∷ b ∷ []) h = absurd (omega arith)
   three-of-three (a ∷ b ∷ c ∷ []) h = refl
   three-of-three (a ∷ b ∷ c ∷ d ∷ p) h = absurd (omega arith)
+
+  -- what holds of each number of each list holds of all of them one after the other
+  pub each-joined : {P : A → Type 0} {d : A} (ps : List (List A)) → Each [] (Each d P) ps → Each d P (joined ps)
+  unfolding joined
+  each-joined [] e = each-nil
+  each-joined (p ∷ ps) e = each-append p (joined ps) (each-head e) (each-joined ps (each-tail e))
 
   -- points of three numbers each, stored one after the other and read again, are the points
   pub threes-joined : (ps : List (List A)) → Each [] (λ p. length p ≡ 3) ps → inThrees (joined ps) ≡ ps

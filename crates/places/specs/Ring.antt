@@ -37,8 +37,8 @@ placesFrom zero i = []
 placesFrom (suc left) i = i ∷ placesFrom left (i + 1)
 
 -- the places of a ring of n, in order: 0 to n − 1
-unfoldable pub placesOf : ℕ → List ℕ
-placesOf n = placesFrom n 0
+unfoldable pub placesBelow : ℕ → List ℕ
+placesBelow n = placesFrom n 0
 
 -- what stands before place k, and after it
 abbrev pub before : {A : Type 0} → A → ℕ → List A → A

@@ -85,7 +85,7 @@ fn face_cut(
     }
 }
 
-// Whether they are as stored.
+// Whether the triangles of a face, by vertex number or by place, are as stored.
 fn cut(
     q: &[u64],
     coords: &[f64],
@@ -104,7 +104,7 @@ fn cut(
     lent::same_triangles(others(q), out)
 }
 
-// The same, in a list of as many places as there are stored.
+// Whether they are as stored, in a list of as many places as there are stored.
 pub fn triangles(
     q: &[u64],
     coords: &[f64],

@@ -155,8 +155,8 @@ pub fn room_refused(face: &[u32], room: usize) -> bool
 }
 
 // A face of under 3 or over 256 corners, or places not in threes, or over 254 triangles.
-fn checked_refused(n: u32, corners: &[u32]) -> bool
-    ensures { λ r. ⌜ r ≡ checkedRefused n (old corners) ⌝ }
+fn checked_refused(n: u32, places: &[u32]) -> bool
+    ensures { λ r. ⌜ r ≡ checkedRefused n (old places) ⌝ }
 {
     if n < 3 {
         return true;
@@ -164,18 +164,18 @@ fn checked_refused(n: u32, corners: &[u32]) -> bool
     if n as usize > places::limits::MOST_CHECKED_CORNERS {
         return true;
     }
-    parts_refused(corners.len(), 3, places::limits::MOST_CHECKED_TRIANGLES)
+    parts_refused(places.len(), 3, places::limits::MOST_CHECKED_TRIANGLES)
 }
 
 // Why triangles over the places of a face of n corners are not checked.
 // Ruled out: a place equal to n let through; 4 for a list that is not in threes.
-pub fn check_refusal(n: u32, corners: &[u32]) -> u8
-    ensures { λ r. ⌜ r ≡ checkRefusal n (old corners) ⌝ }
+pub fn check_refusal(n: u32, places: &[u32]) -> u8
+    ensures { λ r. ⌜ r ≡ checkRefusal n (old places) ⌝ }
 {
-    if checked_refused(n, corners) {
+    if checked_refused(n, places) {
         return 1;
     }
-    if cell::index_refused(n as usize, corners) {
+    if cell::index_refused(n as usize, places) {
         return 4;
     }
     0

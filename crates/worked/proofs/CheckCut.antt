@@ -1,7 +1,7 @@
 -- The rows on triangles that are checked are what the definitions give: both sides compute to the same list.
 use mathlib.Core.Path.{refl}
 use Rattle.places.specs.Loops.{anyOf}
-use Rattle.places.specs.Ring.{nextOf, placesOf}
+use Rattle.places.specs.Ring.{nextOf, placesBelow}
 use Rattle.places.specs.Stored.{inThrees, joined}
 use Rattle.exact.specs.Sides.{runs}
 use Rattle.exact.specs.Facing.{doubled}
@@ -15,7 +15,7 @@ use Rattle.worked.specs.CheckCut.{Claim}
 
 -- every definition on the way to an answer
 unfoldable checked : Unit {0}
-unfolding anyOf nextOf placesOf inThrees joined runs doubled faceSide notDifferent ownWay eachWay isCutOf firstRow indexRefused
+unfolding anyOf nextOf placesBelow inThrees joined runs doubled faceSide notDifferent ownWay eachWay isCutOf firstRow indexRefused
 checked = tt
 
 unfoldable computed : Unit {0}

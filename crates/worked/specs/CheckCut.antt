@@ -1,11 +1,12 @@
 -- Request 9, 'Check triangles that clients send', worked by hand: lists of triangles and what `check_cut` answers, and faces that our own
 -- cut takes apart by place, as two tables and one claim about the definitions. proofs/CheckCut.antt proves the claim by computing them.
--- The check does not refuse every list, and does not accept every list: a triangle doubled, turned round or missing is told.
+-- The check does not accept every list, and does not refuse every list: one with a triangle doubled, turned round or missing gets the
+-- answer no.
 use mathlib.Core.Path.{_≡_}
 use mathlib.Core.Bool.{true, false}
 use mathlib.Core.List.{List, [], _∷_, _++_}
 use Prim.Native.Nat.{ℕ}
-use lib.ListN.{length}
+use lib.ListN.{length, replicate}
 use lib.Ieee.{Float}
 use Rattle.floats.specs.F64.{zero64, one64, two64}
 use Rattle.places.specs.Stored.{joined}
@@ -14,7 +15,7 @@ use Rattle.cut.specs.Cut.{cutByPlace}
 use Rattle.geometry.specs.declared.Truth.{Truth}
 use Rattle.geometry.specs.CheckCut.{checkCutAnswer}
 use Rattle.demand3.specs.Demand3.{pieces}
-use Rattle.worked.specs.Table.{tri, level}
+use Rattle.worked.specs.Table.{seven, tri, level}
 use Rattle.worked.specs.Area.{letterL}
 
 -- ---- a row: a face of n corners, the places of the triangles that are sent, and the answer
@@ -61,9 +62,9 @@ table =
     ∷ no 4 (tri 0 2 1 ++ tri 0 3 2)
     ∷ no 4 (tri 0 1 2)
     ∷ no 4 (tri 0 1 2 ++ tri 0 2 3 ++ tri 0 1 2)
-    -- one of each of its two cuts: the side from 1 to 2 occurs twice
+    -- one triangle of each of its two cuts: the side from 1 to 2 occurs twice
     ∷ no 4 (tri 0 1 2 ++ tri 1 2 3)
-    -- a place twice in one triangle: the side from 0 to 1 occurs once, and from 1 to 1 none is one of the face's
+    -- a place twice in one triangle
     ∷ no 4 (tri 0 1 1 ++ tri 1 2 3)
     -- five and six corners: a fan, a strip, and the triangle in the middle of a hexagon
     ∷ yes 5 (tri 0 1 2 ++ tri 0 2 3 ++ tri 0 3 4)
@@ -71,12 +72,13 @@ table =
     ∷ yes 6 (tri 0 1 2 ++ tri 2 3 4 ++ tri 4 5 0 ++ tri 0 2 4)
     -- each side of the hexagon occurs once its own way, but the triangle in the middle is turned round
     ∷ no 6 (tri 0 1 2 ++ tri 2 3 4 ++ tri 4 5 0 ++ tri 0 4 2)
-    -- seven corners: as many triangles as a cut has, two of which are back to back
+    -- seven corners: as many triangles as a cut has, two of which are back to back, and the side from 6 to 0 is missing
     ∷ no 7 (tri 0 1 2 ++ tri 2 3 4 ++ tri 4 5 6 ++ tri 1 3 5 ++ tri 1 5 3)
-    -- 1 size: n, then the list
+    -- 1 size: n, 255 triangles, and places not in threes
     ∷ refused 1 0 []
     ∷ refused 1 2 (tri 0 1 0)
     ∷ refused 1 257 (tri 0 1 2)
+    ∷ refused 1 256 (replicate 765 0)
     ∷ refused 1 4 (tri 0 1 2 ++ 0 ∷ 2 ∷ [])
     -- 1 comes before 4
     ∷ refused 1 4 (tri 0 1 4 ++ 9 ∷ [])
@@ -105,6 +107,7 @@ abbrev pub ownGiven : List Own
 ownGiven =
     ownOf hourglass (0 ∷ 1 ∷ 2 ∷ 3 ∷ 1 ∷ 4 ∷ [])
     ∷ ownOf letterL (3 ∷ 4 ∷ 5 ∷ 0 ∷ 1 ∷ 2 ∷ [])
+    ∷ ownOf seven (0 ∷ 1 ∷ 2 ∷ 3 ∷ 4 ∷ 5 ∷ 6 ∷ [])
     ∷ []
 
 abbrev pub ownStated : List Own
@@ -120,6 +123,12 @@ ownStated =
       byPlace = tri 0 1 2 ∷ tri 0 2 3 ∷ tri 5 0 3 ∷ tri 3 4 5 ∷ [];
       byNumber = tri 3 4 5 ∷ tri 3 5 0 ∷ tri 2 3 0 ∷ tri 0 1 2 ∷ [];
       answer = Truth.Is true;
+    }
+    -- the seven corners of SCOPE 16, which are cut short: three triangles are not accepted
+    ∷ record {
+      byPlace = tri 6 0 1 ∷ tri 6 1 2 ∷ tri 2 3 4 ∷ [];
+      byNumber = tri 6 0 1 ∷ tri 6 1 2 ∷ tri 2 3 4 ∷ [];
+      answer = Truth.Is false;
     }
     ∷ []
 

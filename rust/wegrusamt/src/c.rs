@@ -168,7 +168,7 @@ pub fn turn_faces(coords: &[f64], corners: &mut [u32], ends: &[u32], out: &mut [
     }
 }
 
-/// Checks triangles, whose places stand behind the number of corners.
+/// Checks triangles, whose places are passed after the number of corners.
 pub fn check_cut(n: u32, places: &[u32], out: &mut [usize]) -> u8 {
     unsafe extern "C" {
         fn wegrusamt_check_cut(

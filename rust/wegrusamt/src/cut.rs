@@ -18,7 +18,7 @@ use crate::{Refusal, c};
 /// ```
 /// use wegrusamt::{Refusal, check_cut};
 ///
-/// // A square, cut from its corner 0 to its corner 2 and from 1 to 3.
+/// // A square, cut from its corner 0 to its corner 2, and from 1 to 3 instead.
 /// assert!(check_cut(4, &[[0, 1, 2], [0, 2, 3]])?);
 /// assert!(check_cut(4, &[[1, 2, 3], [3, 0, 1]])?);
 ///

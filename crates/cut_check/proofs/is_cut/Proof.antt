@@ -6,7 +6,7 @@ use mathlib.Core.Bool.{Bool, true}
 use native.Mathlib.Omega.{arith}
 use Rattle.places.specs.Stored.{inThrees}
 use Rattle.cut_check.specs.CutCheck.{isCutOf}
-use Rattle.cut_check.specs.Steps.{Paired, Corners}
+use Rattle.cut_check.specs.Steps.{Paired, CheckedCorners}
 use Rattle.cut_check.proofs.Answers.{wrong-number, not-different, paired-is-cut}
 use borrow.Author.Needs.{needs}
 use Rattle.cut_check.proofs.is_cut.Statement.{statement}
@@ -23,7 +23,7 @@ same-places c = not-different _ _ (c .before .any-same .ensures) (c .if2 .taken)
 -- the number and the places are right, so that the sides decide
 module _ (c : tie.Else2) where
   abbrev given : tie.Start
-  given = c .before .before .before .before
+  given = search
 
   by-sides : {r : Bool} → (r ≡ true) ↔ Paired (given .args .n) (inThrees (given .args .corners .now))
       → r ≡ isCutOf (given .args .n) (inThrees (given .args .corners .now))
@@ -31,7 +31,7 @@ module _ (c : tie.Else2) where
       let record { before = _; if1 = if1 } : tie.Else1 = search in
       let record { before = _; any-same = any-same } : tie.After-any-same = search in
       let pre = given .pre in
-      let corners : Corners (given .args .n) (given .args .corners .now) = record {
+      let corners : CheckedCorners (given .args .n) (given .args .corners .now) = record {
         threes = pre .2;
         few = omega arith;
         below = pre .3;

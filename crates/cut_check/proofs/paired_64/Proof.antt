@@ -1,10 +1,9 @@
 -- `cut_check::paired_64` meets its contract: a face of at most 64 corners has a place for each in lists of 64 zeros, and its triangles have
 -- at most 186 corners.
-use mathlib.Core.Path.{sym}
 use native.Mathlib.Omega.{arith}
 use lib.ListN.{length}
 use Rattle.places.proofs.Lists.{first-of}
-use Rattle.cut_check.proofs.Marks.{zeros}
+use Rattle.cut_check.proofs.Marks.{lists-lent}
 use borrow.Author.Needs.{needs}
 use Rattle.cut_check.proofs.paired_64.Statement.{statement}
 use Rattle.cut_check.proofs.paired_64.Tie as tie
@@ -21,14 +20,8 @@ nexts-lent c = first-of _ 186 0 (omega arith)
 paired-in-requires : tie.Need-paired-in-requires
 paired-in-requires c κs =
     let start : tie.Start = search in
-    let n = start .args .n in
-    let m = length (start .args .corners .now) in (
-      (start .pre .0, omega arith),
-      (
-        (sym (first-of n 64 0 (omega arith)), sym (first-of n 64 0 (omega arith)), sym (first-of m 186 0 (omega arith))),
-        (zeros n 64, zeros n 64, zeros m 186),
-      ),
-    )
+    let m = length (start .args .corners .now) in
+    ((start .pre .0, omega arith), lists-lent (start .args .n) m 64 186 (omega arith) (omega arith))
 
 pub paired-64-spec : {M : Type 1} → statement M
 paired-64-spec =

@@ -1,4 +1,5 @@
--- `cut_check::paired_in` meets its contract: the corners are linked by place, and then each place is looked at.
+-- `cut_check::paired_in` meets its contract: once they are linked, the chain of each place has all its corners, which is what `paired`
+-- asks.
 use native.Mathlib.Omega.{arith}
 use borrow.Author.Needs.{needs}
 use Rattle.cut_check.proofs.paired_in.Statement.{statement}

@@ -51,7 +51,7 @@ def rows():
     yield 'no_corner', 0, [], size
     yield 'two_corners_sent', 2, [0, 1, 0], size
     yield 'corners_257', 257, fan(257), size
-    yield 'corners_2_32', MARK, [0, 1, 2], size
+    yield 'corners_most', MARK, [0, 1, 2], size
     yield 'not_in_threes', 4, square[:-1], size
     yield 'triangles_255', 256, [*fan(256), 0, 1, 2], size
     yield 'triangles_254_of_4', 4, [0, 1, 2] * 254, no

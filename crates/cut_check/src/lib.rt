@@ -87,7 +87,7 @@ fn link(head: &mut [u16], next: &mut [u16], corners: &[u32])
     }
 }
 
-// The places from which a side comes to that of a chain are marked.
+// Marks each place from which a side comes to the place whose corners the chain holds.
 fn mark_before(mark: &mut [u16], next: &[u16], corners: &[u32], first: usize, stamp: u16)
     requires { ⌜ CheckedCorners (length (now mark)) (now corners) × Backward (now next) (now corners) ⌝ }
     requires { ⌜ first ≤ length (now corners) ⌝ }
@@ -102,7 +102,8 @@ fn mark_before(mark: &mut [u16], next: &[u16], corners: &[u32], first: usize, st
     }
 }
 
-// Whether the sides that leave the place of a chain go to marked places, each to another: a mark that is used is taken off.
+// Whether the sides that leave the place whose corners the chain holds go to marked places, each to another: a mark that is used is taken
+// off.
 fn take_after(mark: &mut [u16], next: &[u16], corners: &[u32], first: usize, stamp: u16) -> bool
     requires { ⌜ CheckedCorners (length (now mark)) (now corners) × Backward (now next) (now corners) ⌝ }
     requires { ⌜ first ≤ length (now corners) ⌝ }
@@ -146,7 +147,8 @@ fn paired_at(
     mark[places::prev(a, n)] == stamp
 }
 
-// Whether it is so at each place. What a place leaves marked needs no clearing, since each place has a stamp of its own.
+// Whether at each place every side that leaves goes to another place, from which one comes back. What a place leaves marked needs no
+// clearing, since each place has a stamp of its own.
 fn paired(mark: &mut [u16], head: &[u16], next: &[u16], corners: &[u32], n: usize) -> bool
     requires { ⌜ CheckedCorners n (now corners) × Backward (now next) (now corners) × (n ≤ mostCheckedCorners) ⌝ }
     requires { ⌜ (length (now head) ≡ n) × Lists (now head) (now next) (now corners) (length (now corners)) ⌝ }

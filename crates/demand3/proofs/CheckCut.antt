@@ -1,5 +1,5 @@
--- Request 9 holds: our own cut by place is a cut (OwnCut.antt), it passes the checks, and the check says yes exactly for cuts; whatever is
--- a cut has the sides of the face, a side and its back taken off, and so the face's doubled area vector.
+-- Request 9 holds: our own cut by place is a cut (OwnCut.antt), nothing of it is refused, and `check_cut` says yes exactly for cuts;
+-- whatever is a cut has the sides of the face, a side and its back taken off, and so the face's doubled area vector.
 use mathlib.Core.Path.{_≡_, refl, sym, _∙_, ap}
 use mathlib.Core.Logic.{_↔_}
 use mathlib.Core.Bool.{Bool, true, false, cond}
@@ -34,11 +34,11 @@ use Rattle.demand3.specs.CheckCut.{OwnCut, OwnEntry, AcceptedArea, Accep
 use Rattle.demand3.proofs.Demand3.{full-left}
 use Rattle.demand3.proofs.OwnCut.{own-cut}
 
--- the check's answer as an equivalence
+-- what `check_cut` answers, as an equivalence
 yes-is : (n : ℕ) (places : List ℕ) → YesForCuts n places (checkCutAnswer n places)
 yes-is n places = yes-for-cuts n places refl
 
--- ---- our own cut passes the checks
+-- ---- our own cut is not refused
 module _ (vs : List Point) (face : List ℕ) (low : 3 ≤ length face) (high : length face ≤ 256) where
   abbrev ours : List (List ℕ)
   ours = cutByPlace vs face .triangles
@@ -107,7 +107,7 @@ own-entry coords corners ends k out after m e low high =
 pub accepted-has-area : AcceptedArea
 accepted-has-area n places e = accepted-area n (inThrees places) (yes-is n places .0 e .1)
 
--- places looked up in a face are as far apart as the vertices that stand there
+-- a ring of places has the doubled area vector of the ring of vertices that stand there
 module _ (at : ℕ → V3) (face : List ℕ) where
   abbrev look : ℕ → ℕ
   look k = getD face k 0

@@ -27,7 +27,7 @@ same-truth a b e = cc
 not-refused : (why : ℕ) (b : Bool) → Truth.Refused why ≡ Truth.Is b → ⊥
 not-refused why b e = let z : _≡_ {A = ℕ} 0 1 = cc in absurd (omega arith)
 
--- past the check the answer is the room's
+-- where nothing is refused the answer is that of the test
 pub tested : (n : ℕ) (places : List ℕ) {why : ℕ} {b : Bool} → why ≡ checkRefusal n places → why ≡ 0 → b ≡ isCutOf n (inThrees places)
     → Truth.Is b ≡ checkCutAnswer n places
 unfolding checkCutAnswer

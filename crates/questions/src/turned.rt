@@ -104,7 +104,7 @@ fn cut(
     lent::same_triangles(others(q), out)
 }
 
-// Whether they are as stored, in a list of as many places as there are stored.
+// Whether the triangles of a face are as stored, in a list of as many places as there are stored.
 pub fn triangles(
     q: &[u64],
     coords: &[f64],

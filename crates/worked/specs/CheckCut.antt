@@ -1,7 +1,6 @@
 -- Request 9, 'Check triangles that clients send', worked by hand: lists of triangles and what `check_cut` answers, and faces that our own
 -- cut takes apart by place, as two tables and one claim about the definitions. proofs/CheckCut.antt proves the claim by computing them.
--- The check does not accept every list, and does not refuse every list: one with a triangle doubled, turned round or missing gets the
--- answer no.
+-- The check says yes to some lists and no to others: no to one with a triangle doubled, turned round or missing.
 use mathlib.Core.Path.{_≡_}
 use mathlib.Core.Bool.{true, false}
 use mathlib.Core.List.{List, [], _∷_, _++_}

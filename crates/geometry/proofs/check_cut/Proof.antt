@@ -1,5 +1,5 @@
--- `geometry::check_cut` meets its contract: what the check lets through is a list of triangles over the places of a face, and the room
--- tests it; the test says yes exactly for a cut.
+-- `geometry::check_cut` meets its contract: what is not refused is a list of triangles over the places of a face, and `is_cut` tests it;
+-- the test says yes exactly for a cut.
 use mathlib.Core.Path.{sym, _∙_}
 use Rattle.refusals.proofs.Refusals.{check-known}
 use Rattle.geometry.specs.declared.Truth.{Truth}

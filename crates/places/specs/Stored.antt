@@ -1,8 +1,9 @@
--- Points as they are stored: the numbers of one point after those of another, three a point of space or two a point of the plane.
+-- Points as they are stored: the numbers of one point after those of another, three a point of space or two a point of the plane. Triangles
+-- that a client sends are stored as points of space are, three places a triangle.
 -- This is the only file that speaks of it (Steps.antt adds the numbers over, which make no point); every other definition is over points.
 use mathlib.Core.List.{List, [], _∷_, _++_}
 
--- the points of a list that is stored in threes; one or two numbers over make no point
+-- the points, or the triangles, of a list that is stored in threes; one or two numbers over make none
 unfoldable pub inThrees : {A : Type 0} → List A → List (List A)
 inThrees [] = []
 inThrees (a ∷ []) = []

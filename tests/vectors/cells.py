@@ -43,11 +43,16 @@ def ring_faces(n):
     return [list(range(n))[::-1], list(range(n, 2 * n))] + sides
 
 
-def prism(rng):
-    """A prism over an outline of 3 to 7 corners whose distances from the middle differ, so that many are not convex."""
-    n, top = rng.randint(3, 7), rng.uniform(0.3, 2)
+def outline(rng, n):
+    """An outline of n corners whose distances from the middle differ, so that many are not convex."""
     reach = [rng.uniform(0.3, 1.5) for _ in range(n)]
-    ring = [(r * math.cos(6.28318 * k / n), r * math.sin(6.28318 * k / n)) for k, r in enumerate(reach)]
+    return [(r * math.cos(6.28318 * k / n), r * math.sin(6.28318 * k / n)) for k, r in enumerate(reach)]
+
+
+def prism(rng):
+    """A prism over an outline of 3 to 7 corners."""
+    n, top = rng.randint(3, 7), rng.uniform(0.3, 2)
+    ring = outline(rng, n)
     return moved(rng, [(x, y, 0.0) for x, y in ring] + [(x, y, top) for x, y in ring]), ring_faces(n)
 
 

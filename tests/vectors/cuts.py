@@ -8,13 +8,8 @@ def sides(triangle):
     return [(a, b), (b, c), (c, a)]
 
 
-def check_cut(n, places):
-    """The number of the refusal, 1 or 4; else whether the triangles are a cut of a face of n corners, True or False. As True is equal to 1
-    in Python, an answer is told from a refusal by its type."""
-    if not 3 <= n <= 256 or len(places) % 3 or len(places) // 3 > 254:
-        return 1
-    if any(place >= n for place in places):
-        return 4
+def is_cut(n, places):
+    """Whether triangles that are not refused are a cut of a face of n corners."""
     triangles = [places[k : k + 3] for k in range(0, len(places), 3)]
     if len(triangles) != n - 2 or any(len(set(t)) != 3 for t in triangles):
         return False

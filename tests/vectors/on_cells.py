@@ -117,6 +117,7 @@ class CellCase(Case):
         self.survey(ps[0])
         for k in self.faces_asked():
             self.triangles(k)
+            self.triangle_places(k)
 
     def shape_and_planes(self):
         self.shape()
@@ -306,6 +307,7 @@ def limits(oracle):
         c.survey((0.5, 0.5, 0.5))
         c.survey((0.5, math.nan, 0.5))
         c.triangles(0)
+        c.triangle_places(0)
         c.shape()
         c.turning()
         c.turn_faces()

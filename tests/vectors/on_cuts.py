@@ -1,9 +1,10 @@
 """Questions on triangles by place, and on triangles that are checked (SCOPE 7.9, SCOPE 20). The answers of `rows` are worked by hand, and
-cuts.py must give the same; those of random lists are cuts.py's. Cuts by place are the Rust's."""
+table.py and cuts.py must give the same; those of random lists are theirs. Cuts by place are the Rust's."""
 from asking import Case, MARK
-from cells import CUBE, HEX8, SEVEN, box, cell_of, prism, torn
-from cuts import check_cut
+from cells import CUBE, HEX8, SEVEN, box, cell_of, outline, prism, torn
+from cuts import is_cut
 from on_cells import CellCase
+from table import check_refusal
 
 # The vertex in the middle stands at the places 1 and 4 of the face.
 HOURGLASS, TWICE = [(0, 0, 0), (1, 1, 0), (0, 2, 0), (2, 2, 0), (2, 0, 0)], [0, 1, 2, 3, 1, 4]
@@ -13,9 +14,9 @@ class ListCase(Case):
     """Triangles that are checked: their places stand in the corner list."""
 
     def check(self, n):
-        said = check_cut(n, self.cell[1])
-        answered = isinstance(said, bool)
-        self.put('check_cut', [n], 0 if answered else said, counts=[int(said)] if answered else [], shown=f' {n} corners')
+        places = self.cell[1]
+        why = check_refusal(n, places)
+        self.put('check_cut', [n], why, counts=[] if why else [int(is_cut(n, places))], shown=f' {n} corners')
 
 
 def fan(n):
@@ -23,7 +24,7 @@ def fan(n):
 
 
 def rows():
-    """A face of so many corners, the places that are sent, and 1 for yes, 0 for no, or the refusal and no answer."""
+    """A face of so many corners, the places that are sent, and the code with 1 for yes or 0 for no, or the refusal with None."""
     square, hexagon = [0, 1, 2, 0, 2, 3], [0, 1, 2, 2, 3, 4, 4, 5, 0]
     yes, no, size, index = (0, 1), (0, 0), (1, None), (4, None)
     yield 'three', 3, [0, 1, 2], yes
@@ -92,6 +93,13 @@ def spoilt(rng, n, triangles):
     return triangles
 
 
+def face_of(rng, n):
+    """A cell of one face of n corners, whose vertices are numbered in any order."""
+    numbers = rng.sample(range(n), n)
+    point_of = dict(zip(numbers, outline(rng, n)))
+    return cell_of([(*point_of[v], 0.0) for v in range(n)], [numbers])
+
+
 def cuts(oracle, rng):
     out = []
 
@@ -124,6 +132,8 @@ def cuts(oracle, rng):
     cut('outside', (*cell_of(CUBE, HEX8)[:1], [8], [1]), 'refused 4')
     for k in range(30):
         cut(k + 1, cell_of(*(box, prism, torn)[k % 3](rng)))
+    for n in (16, 17, 128, 129, 200):
+        cut(f'face_{n}', face_of(rng, n), f'a face of {n} corners')
     room = CellCase(oracle, 'places_room', cell_of(CUBE, HEX8), 'a face number past the last is refused 4, a list of too few places 6')
     for face, places in ((0, 0), (0, 1), (0, 2), (5, 1), (6, 0), (6, 9), (MARK, 2)):
         room.triangle_places(face, places)

@@ -65,6 +65,13 @@ def plane_refusal(coords):
     return 1 if len(coords) % 2 or len(coords) > 1024 else 2 if wild(coords) else 0
 
 
+def check_refusal(n, places):
+    """Triangles that are checked against a face of n corners: the sizes of the face and of the list, then places that the face has not."""
+    if not 3 <= n <= 256 or len(places) % 3 or len(places) // 3 > 254:
+        return 1
+    return 4 if any(place >= n for place in places) else 0
+
+
 def work_refusal(lengths):
     return 1 if any(n > 3072 for n in lengths) else 0
 

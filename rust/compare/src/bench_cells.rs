@@ -277,6 +277,8 @@ fn add_checks(table: &mut Table) {
                 || ours::check_cut(corners, black_box(places), &mut yes),
                 || judge.is_cut(corners, black_box(places)),
             );
+            let answer = ours::check_cut(corners, places, &mut yes);
+            assert_eq!((answer, yes), (0, [1]), "ours accepts the cut");
             assert_eq!(judge.is_cut(corners, places), Ok(true));
         }
     }

@@ -195,7 +195,9 @@ impl Calls {
         }
     }
 
-    fn lent_two<A: Lent, B: Lent>(
+    /// Lends so many places of two lists. The values must stand at their fronts, and nothing else may
+    /// change.
+    pub fn lent_two<A: Lent, B: Lent>(
         &mut self,
         entry: &'static str,
         places: [usize; 2],

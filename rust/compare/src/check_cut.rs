@@ -1,20 +1,26 @@
 //! `compare check_cut`: triangles checked against a face by the port and by the second teller
 //! (`cut_judge.rs`), for the Rust has no such check; and our own cuts, which must be accepted.
 
+use std::collections::BTreeMap;
 use std::fmt;
 
 use crate::bench_lists::in_space;
 use crate::calls::{BEYOND, Calls, Lent, departure};
 use crate::cells::{self, Cell};
 use crate::comparison::{Compared, Different, ask};
-use crate::cut_judge::{FEWEST_CORNERS, Judge, MOST_CORNERS};
+use crate::cut::by_place;
+use crate::cut_judge::{FEWEST_CORNERS, Judge, MOST_CHECKED_CORNERS};
 use crate::cut_lists::{self, Made, Sent};
 use crate::limits::MOST_VERTICES;
 use crate::random::Random;
-use crate::{faces, ours, refusals};
+use crate::{faces, ours};
 
 /// How many places `out` has: too few, as many as it needs, and more.
-const PLACES: [usize; 3] = [0, 1, 3];
+const PLACES: [usize; 3] = [0, 1, TO_SPARE];
+const TO_SPARE: usize = 3;
+
+/// `check_cut`, or a stand-in for it.
+type Check = fn(u32, &[u32], &mut [usize]) -> u8;
 
 /// Asks about every short list, about so many random ones, and about our own cuts of random faces.
 pub fn compare(calls: &mut Calls, count: u64, seed: u64) -> Compared {
@@ -48,22 +54,29 @@ pub fn ask_about(
     sent: Sent,
     random: &mut Random,
 ) -> Compared {
+    ask_of(calls, judge, titles, sent, random, ours::check_cut)
+}
+
+/// The same of any check.
+fn ask_of(
+    calls: &mut Calls,
+    judge: &mut Judge,
+    titles: &[&'static str],
+    sent: Sent,
+    random: &mut Random,
+    check: Check,
+) -> Compared {
     ask(calls, &sent, random, |calls, sent, _| {
         let judged = judge.is_cut(sent.corners, &sent.places);
         for title in titles {
             calls.count(title, Answer(judged));
         }
-        compare_list(calls, sent, judged, ours::check_cut);
+        compare_list(calls, sent, judged, check);
     })
 }
 
 /// Asks with `out` of each length.
-fn compare_list(
-    calls: &mut Calls,
-    sent: &Sent,
-    judged: Result<bool, u8>,
-    check: impl Fn(u32, &[u32], &mut [usize]) -> u8,
-) {
+fn compare_list(calls: &mut Calls, sent: &Sent, judged: Result<bool, u8>, check: Check) {
     for places in PLACES {
         let mut out = vec![usize::MARK; places + BEYOND];
         let answer = check(sent.corners, &sent.places, &mut out[..places]);
@@ -81,6 +94,9 @@ fn compare_list(
 
 // Every short list.
 
+/// The title for the lists of which all are tried.
+const EVERY: &str = "every short list";
+
 /// Triangles of the longest list of which all are tried.
 const LONGEST: usize = 4;
 
@@ -94,26 +110,29 @@ const FOR_LARGE_SETS: u64 = 100_000;
 ///
 /// What is left out: four triangles with a place beyond for four and for five corners; for six
 /// corners other numbers of triangles, and triangles from another place on; numbers not in threes,
-/// and other lengths of `out` than 1, which `short` and the random lists have.
+/// and other lengths of `out` than `TO_SPARE`, which `short` and the random lists have.
 fn every_short_list(
     calls: &mut Calls,
     judge: &mut Judge,
     count: u64,
     random: &mut Random,
 ) -> Compared {
+    let mut every = |corners: u32, of: &[[u32; 3]], length: usize| {
+        let lists = Lists::new(of, length);
+        every_list(calls, judge, corners, lists, random, ours::check_cut)
+    };
     for length in 0..=LONGEST {
-        every_list(calls, judge, 3, &all_triangles(4), length, random)?;
+        every(3, &all_triangles(4), length)?;
     }
     for corners in [4, 5] {
         for length in 0..LONGEST {
-            let triangles = all_triangles(corners + 1);
-            every_list(calls, judge, corners, &triangles, length, random)?;
+            every(corners, &all_triangles(corners + 1), length)?;
         }
     }
-    every_list(calls, judge, 4, &all_triangles(4), LONGEST, random)?;
+    every(4, &all_triangles(4), LONGEST)?;
     if count >= FOR_LARGE_SETS {
-        every_list(calls, judge, 5, &all_triangles(5), LONGEST, random)?;
-        every_list(calls, judge, 6, &from_the_lowest(6), LONGEST, random)?;
+        every(5, &all_triangles(5), LONGEST)?;
+        every(6, &from_the_lowest(6), LONGEST)?;
     }
     Ok(())
 }
@@ -134,51 +153,60 @@ fn from_the_lowest(places: u32) -> Vec<[u32; 3]> {
     triangles
 }
 
-/// Every list of so many triangles out of a set. Nothing is allocated on the way: what is asked and
-/// held here is what `compare_list` does with `out` of one place, and a list on which something
-/// differs is handed over to it.
+/// Asks about one list after another, up to the first on which something differs. No list costs an
+/// allocation.
 fn every_list(
     calls: &mut Calls,
     judge: &mut Judge,
     corners: u32,
-    of: &[[u32; 3]],
-    length: usize,
+    mut lists: Lists,
     random: &mut Random,
+    check: Check,
 ) -> Compared {
-    let mut lists = Lists::new(of, length);
-    // How many are a cut, are none, and have a place that is not there.
-    let mut times = [0; 3];
+    let mut answers: BTreeMap<_, usize> = BTreeMap::new();
     loop {
         let places = lists.now().as_flattened();
         let judged = judge.is_cut(corners, places);
-        let mut out = [usize::MARK; 1 + BEYOND];
-        let answer = ours::check_cut(corners, places, &mut out[..1]);
-        let (wanted, first, kind) = match judged {
-            Ok(true) => (0, 1, 0),
-            Ok(false) => (0, 0, 1),
-            Err(number) => (number, usize::MARK, 2),
-        };
-        let is_right = answer == wanted && out[0] == first && out[1..] == [usize::MARK; BEYOND];
-        if !is_right {
+        if !is_right(corners, places, judged, check) {
             let sent = Sent::new(corners, lists.now());
-            ask_about(calls, judge, &["every short list"], sent, random)?;
-            calls.expect(
-                false,
-                "check_cut",
-                "differs, and not when it is asked again",
-            );
-            return Err(Different);
+            return Err(told(calls, judge, sent, random, check));
         }
-        times[kind] += 1;
+        *answers.entry(judged).or_default() += 1;
         if !lists.step() {
             break;
         }
     }
-    for (judged, times) in [Ok(true), Ok(false), Err(4)].into_iter().zip(times) {
-        calls.count_times("every short list", Answer(judged), times);
+    for (judged, times) in answers {
+        calls.count_times(EVERY, Answer(judged), times);
         calls.held_before("check_cut", judged.err().unwrap_or(0), times);
     }
     Ok(())
+}
+
+/// Tells of a list on which something differs, as `compare_list` finds it.
+fn told(
+    calls: &mut Calls,
+    judge: &mut Judge,
+    sent: Sent,
+    random: &mut Random,
+    check: Check,
+) -> Different {
+    if ask_of(calls, judge, &[EVERY], sent, random, check).is_ok() {
+        let what = "differs, and not when it is asked again";
+        calls.expect(false, "check_cut", what);
+    }
+    Different
+}
+
+/// Whether a check does with `out` of `TO_SPARE` places what `compare_list` wants of it.
+fn is_right(corners: u32, places: &[u32], judged: Result<bool, u8>, check: Check) -> bool {
+    let mut out = [usize::MARK; TO_SPARE + BEYOND];
+    let answer = check(corners, places, &mut out[..TO_SPARE]);
+    let (wanted, first) = match judged {
+        Ok(yes) => (0, usize::from(yes)),
+        Err(number) => (number, usize::MARK),
+    };
+    answer == wanted && out[0] == first && out[1..].iter().all(|&number| number == usize::MARK)
 }
 
 /// The lists of so many triangles out of a set, one after another.
@@ -227,7 +255,7 @@ const OWN: &str = "our own cuts";
 /// Cuts by place: of convex, concave and crossing outlines of each number of corners, and of random
 /// faces and cells.
 fn own_cuts(calls: &mut Calls, judge: &mut Judge, count: u64, random: &mut Random) -> Compared {
-    for corners in 1..=MOST_CORNERS as usize {
+    for corners in 1..=MOST_CHECKED_CORNERS as usize {
         let convex = faces::convex(corners, random);
         let star = faces::star(corners, random);
         let any = faces::any_outline(corners, random);
@@ -268,9 +296,9 @@ fn ask_about_own_cut(
     })
 }
 
-/// Cuts a face by place and asks about what was written. The second teller and the port must both
-/// accept it where the face has 3 to 256 corners and is fully cut, and both say no where the cut
-/// stops short.
+/// Cuts a face by place, which must give the Rust's triangles and change nothing else, and asks
+/// about them. The second teller and the port must both accept them where the face has 3 to 256
+/// corners and is fully cut, and both say no where the cut stops short.
 fn own_cut(
     calls: &mut Calls,
     judge: &mut Judge,
@@ -279,24 +307,23 @@ fn own_cut(
     cut: impl Fn(&Cell, u32, &mut [[u32; 3]], &mut [usize]) -> u8,
 ) {
     // While an input is made smaller its cell may be refused, and has no face then.
-    if refusals::of_face(cell, face).is_some() {
+    let Ok(triangles) = by_place(cell, face) else {
         return;
-    }
+    };
     let corners = cell.face(face).len() as u32;
     let room = corners.saturating_sub(2) as usize;
-    let mut out = vec![Lent::MARK; room];
-    let mut count = [usize::MARK];
-    let answer = cut(cell, face, &mut out, &mut count);
-    calls.held("triangle_places", &[room, 1], answer, 0, None);
-    let [count] = count;
-    if answer != 0 || count > room {
-        calls.expect(false, "triangle_places", "does not cut a sound face");
-        return;
-    }
-    let sent = Sent::new(corners, &out[..count]);
+    let count = triangles.len();
+    let sent = Sent::new(corners, &triangles);
+    let expected = Ok((triangles, vec![count]));
+    calls.lent_two(
+        "triangle_places",
+        [room, 1],
+        &expected,
+        &mut |out, count| cut(cell, face, out, count),
+    );
     let judged = judge.is_cut(corners, &sent.places);
     calls.count(OWN, Answer(judged));
-    if (FEWEST_CORNERS..=MOST_CORNERS).contains(&corners) {
+    if (FEWEST_CORNERS..=MOST_CHECKED_CORNERS).contains(&corners) {
         calls.expect(
             judged == Ok(count == room),
             "triangle_places",
@@ -314,11 +341,11 @@ mod tests {
     use std::collections::BTreeSet;
 
     /// The smallest list found on which a wrong stand-in differs.
-    fn smallest(check: impl Fn(u32, &[u32], &mut [usize]) -> u8) -> Sent {
+    fn smallest(check: Check) -> Sent {
         let any = |random: &mut Random| cut_lists::any(random).sent;
         smallest_of(any, |calls, sent: &Sent, _| {
             let judged = Judge::default().is_cut(sent.corners, &sent.places);
-            compare_list(calls, sent, judged, &check);
+            compare_list(calls, sent, judged, check);
         })
     }
 
@@ -346,16 +373,58 @@ mod tests {
         assert!(calls.first_fault().is_none());
     }
 
+    /// Answers yes wherever nothing is refused.
+    fn accepts_everything(corners: u32, places: &[u32], out: &mut [usize]) -> u8 {
+        let answer = right(corners, places, out);
+        if answer == 0 {
+            out[0] = 1;
+        }
+        answer
+    }
+
+    /// Writes behind its answer, where there is a place to spare.
+    fn writes_behind(corners: u32, places: &[u32], out: &mut [usize]) -> u8 {
+        let answer = right(corners, places, out);
+        if answer == 0
+            && let Some(next) = out.get_mut(1)
+        {
+            *next = 0;
+        }
+        answer
+    }
+
     #[test]
     fn a_check_that_accepts_everything_shrinks_to_no_triangle() {
-        let small = smallest(|corners, places, out| {
-            let answer = right(corners, places, out);
-            if answer == 0 {
-                out[0] = 1;
-            }
-            answer
+        assert_eq!(smallest(accepts_everything), Sent::new(3, &[]));
+    }
+
+    #[test]
+    fn a_check_that_writes_behind_its_answer_is_found() {
+        assert_eq!(smallest(writes_behind), Sent::new(3, &[]));
+    }
+
+    /// What is told of a check where every list of up to two triangles is tried on a face of four
+    /// corners, with a place that is not there.
+    fn told_of_every_list(check: Check) -> Option<String> {
+        let mut calls = Calls::default();
+        let (judge, random) = (&mut Judge::default(), &mut Random::new(1));
+        let triangles = all_triangles(5);
+        let compared = (0..=2).try_for_each(|length| {
+            let lists = Lists::new(&triangles, length);
+            every_list(&mut calls, judge, 4, lists, random, check)
         });
-        assert_eq!(small, Sent::new(3, &[]));
+        let told = calls.first_fault().map(|fault| fault.what.clone());
+        assert_eq!(compared.is_err(), told.is_some());
+        told
+    }
+
+    #[test]
+    fn every_list_tells_a_wrong_check() {
+        assert_eq!(told_of_every_list(right), None);
+        let told = |check, what: &str| told_of_every_list(check).is_some_and(|t| t.contains(what));
+        assert!(told(accepts_everything, "out[0] is 1, should be 0"));
+        assert!(told(writes_behind, "out[1] is 0, should be"));
+        assert!(told(|_, _, _| 4, "answered 4, should answer 6"));
     }
 
     #[test]
@@ -460,16 +529,45 @@ mod tests {
         assert_eq!(cuts(5, &from_the_lowest(5)), 5 * 6);
     }
 
-    /// A cut that gives vertices in the place of places.
+    /// The smallest face found on which a wrong cut by place is told.
+    fn smallest_own(cut: impl Fn(&Cell, u32, &mut [[u32; 3]], &mut [usize]) -> u8) -> Cell {
+        let any = |random: &mut Random| faces::any_with_a_vertex(random, 64).cell;
+        smallest_of(any, |calls, cell: &Cell, _| {
+            own_cut(calls, &mut Judge::default(), cell, 0, &cut);
+        })
+    }
+
+    /// The slip 'vertex numbers in the place of places'.
     #[test]
     fn a_cut_by_vertex_is_not_taken_for_one_by_place() {
-        let random = &mut Random::new(3);
-        let any = |_: &mut Random| faces::any_with_a_vertex(random, 64).cell;
-        let small = smallest_of(any, |calls, cell: &Cell, _| {
-            if cell.ends.len() == 1 {
-                own_cut(calls, &mut Judge::default(), cell, 0, ours::triangles);
+        assert_eq!(smallest_own(ours::triangles).corners.len(), 3);
+    }
+
+    /// The check accepts a fan wherever ours is a full cut.
+    #[test]
+    fn a_fan_is_not_taken_for_our_own_cut() {
+        let small = smallest_own(|cell, face, out, count| {
+            let answer = ours::triangle_places(cell, face, out, count);
+            let corners = cell.face(face).len() as u32;
+            if answer == 0 && count[0] + 2 == corners as usize {
+                out.copy_from_slice(&cut_lists::fan(corners));
             }
+            answer
         });
-        assert_eq!(small.corners.len(), 3);
+        assert_eq!(small.corners.len(), 4);
+    }
+
+    #[test]
+    fn a_cut_that_writes_behind_its_last_triangle_is_found() {
+        let small = smallest_own(|cell, face, out, count| {
+            let answer = ours::triangle_places(cell, face, out, count);
+            if answer == 0
+                && let Some(next) = out.get_mut(count[0])
+            {
+                *next = [0; 3];
+            }
+            answer
+        });
+        assert!(small.corners.len() > 3);
     }
 }

@@ -65,8 +65,9 @@ enum Cut {
     Short,
 }
 
-/// Asks for the triangles of a face and for their count, by vertex and by place. Looked up in the
-/// face, the Rust's places must be its vertices, so that ours are too where both are the Rust's.
+/// Asks for the triangles of a face and for their count, by vertex and by place. The Rust's places,
+/// looked up in the face, must give the Rust's vertices; then ours do too, since each is held to the
+/// Rust's.
 pub fn compare_face(calls: &mut Calls, cell: &Cell, face: u32, random: &mut Random) {
     let by_vertex = by_vertex(cell, face);
     let by_place = by_place(cell, face);
@@ -109,7 +110,7 @@ fn by_vertex(cell: &Cell, face: u32) -> Result<Vec<[u32; 3]>, u8> {
 
 /// The same by place: the Rust cuts the face whose vertices are the points of the corners, in their
 /// order, and whose corners are 0, 1, 2 and so on.
-fn by_place(cell: &Cell, face: u32) -> Result<Vec<[u32; 3]>, u8> {
+pub fn by_place(cell: &Cell, face: u32) -> Result<Vec<[u32; 3]>, u8> {
     unless_refused(refusals::of_face(cell, face), || {
         let outline = cell.outline(cell.face(face));
         let places: Vec<u32> = (0..outline.len() as u32).collect();

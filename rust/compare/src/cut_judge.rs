@@ -5,7 +5,7 @@
 
 /// Corners of a face that is checked, and triangles of a list.
 pub const FEWEST_CORNERS: u32 = 3;
-pub const MOST_CORNERS: u32 = 256;
+pub const MOST_CHECKED_CORNERS: u32 = 256;
 pub const MOST_TRIANGLES: usize = 254;
 
 /// The second teller. It keeps its table from one list to the next, so that a list costs no new
@@ -60,7 +60,7 @@ impl Judge {
 /// 1 for a number of corners out of range, places not in threes or too many triangles; 4 for a
 /// place that is not below the number of corners.
 pub fn refusal(corners: u32, places: &[u32]) -> Option<u8> {
-    let no_face = !(FEWEST_CORNERS..=MOST_CORNERS).contains(&corners);
+    let no_face = !(FEWEST_CORNERS..=MOST_CHECKED_CORNERS).contains(&corners);
     let no_list = !places.len().is_multiple_of(3) || places.len() / 3 > MOST_TRIANGLES;
     if no_face || no_list {
         Some(1)
@@ -157,8 +157,8 @@ mod tests {
         cuts
     }
 
-    /// Every triangle over so many corners, from its lowest place on.
-    fn from_the_lowest(corners: u32) -> Vec<[u32; 3]> {
+    /// Every triangle of three different places over so many corners, from its lowest place on.
+    fn proper_from_the_lowest(corners: u32) -> Vec<[u32; 3]> {
         let lowest = |a: u32| {
             let others = move |b: u32| (a + 1..corners).map(move |c| [a, b, c]);
             (a + 1..corners).flat_map(others)
@@ -191,7 +191,7 @@ mod tests {
                 assert_eq!(answer(corners, &cut), Ok(true), "{cut:?}");
             }
             if corners <= 6 {
-                let triangles = from_the_lowest(corners);
+                let triangles = proper_from_the_lowest(corners);
                 let accepted = accepted(corners, &triangles, &mut Vec::new());
                 assert_eq!(accepted, ways, "{corners}");
             }

@@ -2,7 +2,7 @@
 //! sides meet each other and that are no cut of the face.
 
 use crate::calls::print_list;
-use crate::cut_judge::{MOST_CORNERS, MOST_TRIANGLES, has_three_different_places};
+use crate::cut_judge::{MOST_CHECKED_CORNERS, MOST_TRIANGLES, has_three_different_places};
 use crate::random::Random;
 use crate::shrink::{Input, Shrink, turn_into, within};
 
@@ -51,7 +51,7 @@ impl Shrink for Sent {
     fn shrink(&mut self, fails: &mut dyn FnMut(&Sent) -> bool) {
         let is_in_threes = self.places.len().is_multiple_of(3);
         if is_in_threes {
-            for place in (0..self.corners.min(MOST_CORNERS)).rev() {
+            for place in (0..self.corners.min(MOST_CHECKED_CORNERS)).rev() {
                 let fewer = self.merged(place);
                 turn_into(self, fewer, fails);
             }
@@ -143,8 +143,8 @@ pub fn any(random: &mut Random) -> Made {
 /// A number of corners in the range: mostly small, and now and then the largest.
 fn any_corners(random: &mut Random) -> u32 {
     let corners = match random.below(16) {
-        0 => MOST_CORNERS as usize,
-        1 => random.between(129, MOST_CORNERS as usize),
+        0 => MOST_CHECKED_CORNERS as usize,
+        1 => random.between(129, MOST_CHECKED_CORNERS as usize),
         2..=3 => random.between(17, 128),
         4..=7 => random.between(8, 16),
         _ => random.between(3, 7),
@@ -521,7 +521,7 @@ mod tests {
     #[test]
     fn fans_strips_and_random_cuts_are_cuts() {
         let (judge, random) = (&mut Judge::default(), &mut Random::new(1));
-        for corners in 3..=MOST_CORNERS {
+        for corners in 3..=MOST_CHECKED_CORNERS {
             for triangles in [fan(corners), strip(corners)] {
                 assert_eq!(judge.is_cut(corners, triangles.as_flattened()), Ok(true));
             }
@@ -583,7 +583,7 @@ mod tests {
     fn lists_that_are_no_cut_have_as_many_triangles() {
         let random = &mut Random::new(4);
         for (kind, fewest, other) in OTHERS {
-            for corners in fewest..=MOST_CORNERS {
+            for corners in fewest..=MOST_CHECKED_CORNERS {
                 let count = other(corners, random).len();
                 let may_be_more = kind == "a cut, and more that closes";
                 let is_right = count == corners as usize - 2;

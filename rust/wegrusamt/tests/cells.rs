@@ -169,7 +169,7 @@ fn cuts_are_checked() {
         if corners < 256 {
             wrong.push(cut[0]);
             assert_eq!(check_cut(corners, &wrong), Ok(false), "{corners}");
-            // A face of a corner more has the same places, and another cut.
+            // A face of a corner more has these places too, and needs a triangle more.
             assert_eq!(check_cut(corners + 1, &cut), Ok(false), "{corners}");
         }
     }

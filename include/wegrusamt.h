@@ -17,7 +17,7 @@
  *   1 size    coordinates or query values not in threes (in pairs in the plane; planes in fours); 0 or over 256
  *             vertices, or points of a list of space; over 256 faces, 2,048 corners, 256 planes, 256 query points
  *             or 512 points of the plane; a work list over 3,072 numbers; a face to check of under 3 or over 256
- *             corners, its places not in threes, or over 254 triangles
+ *             corners, places of triangles not in threes, or over 254 triangles
  *   2 number  a coordinate or query value is NaN, infinite or above 2^40 in magnitude
  *   3 ends    ends fall, or the last is not the corner count
  *   4 index   a corner not below the vertex count, a face number not below the face count, or a place of a face to
@@ -106,14 +106,6 @@ uint8_t wegrusamt_triangle_places(const double *coords, size_t coords_len, const
                                   size_t corners_len, const uint32_t *ends, size_t ends_len, uint32_t face,
                                   uint32_t (*out)[3], size_t out_len, size_t *count, size_t count_len);
 
-/* Whether triangles are a cut of a face of n corners, 3 to 256. places: corner places of the face, 0 to n - 1,
- * three a triangle, in one list of numbers. Yes exactly when there are n - 2 triangles of three different places
- * each, each side of the face (from a place to the next, and from the last to the first) occurs in exactly one
- * triangle in its own direction and in none reversed, and every other side that occurs does so once each way.
- * Where the points lie is not asked. What wegrusamt_triangle_places gives for a fully cut face of 3 to 256 corners
- * is such a cut. Refusals 1, 4, 6. out: 1 or 0. */
-uint8_t wegrusamt_check_cut(uint32_t n, const uint32_t *places, size_t places_len, size_t *out, size_t out_len);
-
 /* All that the cell report says of a cell. queries: three numbers a point, at most 256 points. counts: triangles,
  * closed (1 or 0), faces cut short, query points contained. volume: 1 number. */
 uint8_t wegrusamt_survey(const double *coords, size_t coords_len, const uint32_t *corners, size_t corners_len,
@@ -161,6 +153,16 @@ uint8_t wegrusamt_convex_intersection_volume(const double *coords, size_t coords
                                              const uint32_t *other_ends, size_t other_ends_len, double *first,
                                              size_t first_len, double *second, size_t second_len, double *out,
                                              size_t out_len);
+
+/* ---- triangles over the places of a face: refusals 1, 4, and 6 ---- */
+
+/* Whether triangles are a cut of a face of n corners, 3 to 256. places: corner places of the face, 0 to n - 1,
+ * three a triangle, in one list of numbers. Yes exactly when there are n - 2 triangles of three different places
+ * each, each side of the face (from a place to the next, and from the last to the first) occurs in exactly one
+ * triangle in its own direction and in none reversed, and every other side that occurs does so once each way.
+ * Where the points lie is not asked. What wegrusamt_triangle_places gives for a fully cut face of 3 to 256 corners
+ * is such a cut. out: 1 or 0. */
+uint8_t wegrusamt_check_cut(uint32_t n, const uint32_t *places, size_t places_len, size_t *out, size_t out_len);
 
 /* ---- clipping ---- */
 

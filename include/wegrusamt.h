@@ -3,11 +3,11 @@
  * Link with the archive that `rt staticlib abi` builds (target/staticlib/libabi.a); no other library is needed,
  * not even -lm. examples/volume.c is a program that does so.
  *
- * Lists. A list is a pointer and then its length in elements; an element is one number, save in the triangles'
- * list, where it is three. The pointer is aligned for its elements and never NULL; where the length is 0 it need
- * not point to anything. A list that is written to (its pointer is not const) overlaps no other list of the call;
- * lists that are only read may overlap. Nothing is kept after a call, and there is no state: threads may call at
- * the same time with lists of their own.
+ * Lists. A list is a pointer and then its length in elements; an element is one number, save in the list that
+ * triangles are written to, where it is three. The pointer is aligned for its elements and never NULL; where the
+ * length is 0 it need not point to anything. A list that is written to (its pointer is not const) overlaps no
+ * other list of the call; lists that are only read may overlap. Nothing is kept after a call, and there is no
+ * state: threads may call at the same time with lists of their own.
  *
  * A cell is three lists: coords, three numbers a vertex; corners, vertex numbers from 0; ends, where each face
  * ends in corners (face k runs from the end before it, 0 for the first, up to its own).
@@ -161,7 +161,7 @@ uint8_t wegrusamt_convex_intersection_volume(const double *coords, size_t coords
  * each, each side of the face (from a place to the next, and from the last to the first) occurs in exactly one
  * triangle in its own direction and in none reversed, and every other side that occurs does so once each way.
  * Where the points lie is not asked. What wegrusamt_triangle_places gives for a fully cut face of 3 to 256 corners
- * is such a cut. out: 1 or 0. */
+ * is such a cut: its count triangles are 3 * count numbers here, from &out[0][0] on. out: 1 or 0. */
 uint8_t wegrusamt_check_cut(uint32_t n, const uint32_t *places, size_t places_len, size_t *out, size_t out_len);
 
 /* ---- clipping ---- */

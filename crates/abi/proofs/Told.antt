@@ -52,14 +52,14 @@ pub uncounted-refused : {L : Type 0} {a : Count} {list : L} {answer : Count × L
 uncounted-refused e q = rw (← e, q)
 
 module _ (answer : List (List ℕ) → Count × List (List ℕ)) (out : List (List ℕ)) where
-  pub triangles-short : (count : List ℕ) {r : ℕ} → length count < 1 → told r [] [] ≡ written (ofCount (answer [] .0)) [] []
+  pub count-short : (count : List ℕ) {r : ℕ} → length count < 1 → told r [] [] ≡ written (ofCount (answer [] .0)) [] []
       → (r, out, count) ≡ countTold answer out count
-  triangles-short [] h e = rw (ap (λ (t : Reply). t .0) e, ← ap (λ (t : Reply). t .2) e)
-  triangles-short (x ∷ xs) h e = absurd (omega arith)
+  count-short [] h e = rw (ap (λ (t : Reply). t .0) e, ← ap (λ (t : Reply). t .2) e)
+  count-short (x ∷ xs) h e = absurd (omega arith)
 
-  pub triangles-long : (count : List ℕ) {a : Count} {r : ℕ} {out′ : List (List ℕ)} {count′ : List ℕ} → 1 ≤ length count
+  pub count-long : (count : List ℕ) {a : Count} {r : ℕ} {out′ : List (List ℕ)} {count′ : List ℕ} → 1 ≤ length count
       → (a, out′) ≡ answer out → told r [] count′ ≡ written (ofCount a) [] count → (r, out′, count′) ≡ countTold answer out count
-  triangles-long count h e p = rw (le-ltb (length count) 1 h, ← e, ap (λ (t : Reply). t .0) p, ap (λ (t : Reply). t .2) p)
+  count-long count h e p = rw (le-ltb (length count) 1 h, ← e, ap (λ (t : Reply). t .0) p, ap (λ (t : Reply). t .2) p)
 
 -- ---- vertices moved to a local origin: where there is no room for the vector the entry that only asks answers alike
 module _ (coords out : List Float) where

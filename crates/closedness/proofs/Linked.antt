@@ -12,9 +12,9 @@ use lib.Seq.{slice, length-slice, getD-set-same, getD-set-other}
 use borrow.Author.Tests.{eq-eqb, ne-eqb}
 use Rattle.places.specs.Ring.{nextOf}
 use Rattle.places.proofs.Loops.{Rounding, round-start, round-next, round-end}
+use Rattle.places.proofs.Stamps.{zeros, set-holds}
 use Rattle.cell.specs.Faces.{facesOf, rises}
 use Rattle.cell.proofs.Faces.{Facing, face-start, face-next, face-end}
-use Rattle.side_table.proofs.Zeros.{zeros}
 use Rattle.closedness.specs.Steps.{lowerOf, codeOf, codesAt, Chain, Backward, Links, Unlinked, Lists}
 use Rattle.closedness.specs.Steps.{Gains, push, pushFace, pushFaces}
 
@@ -27,15 +27,6 @@ chain-keep {next} {other} s x y h (c ∷ cs) b g t =
     let n : h - 1 ≢ s = λ e. absurd (omega arith) in
     let rest = chain-keep s x y (getD next (h - 1) 0) cs b (omega (arith, b .back (h - 1))) (t .2) in
     (t .0, getD-set-other other s (h - 1) y 0 n ∙ t .1, rw (getD-set-other next s (h - 1) x 0 n) rest)
-
--- what holds of each place, once it holds of what is stored
-set-holds : (P : ℕ → ℕ → Type 0) (t : List ℕ) (s x : ℕ) → s < length t → P s x → ((p : ℕ) → P p (getD t p 0)) → (p : ℕ)
-    → P p (getD (set t s x) p 0)
-set-holds P t s x h here all p = go (ℕ-discrete p s)
-  where
-    go : Dec (p ≡ s) → P p (getD (set t s x) p 0)
-    go (yes e) = rw (e, getD-set-same t s x 0 h) here
-    go (no n) = rw (getD-set-other t s p x 0 n) (all p)
 
 module _ {head next other : List ℕ} {s : ℕ} (k : Links head next other s) (h : s < length next) where
   -- no side is linked
@@ -55,11 +46,11 @@ module _ {head next other : List ℕ} {s : ℕ} (k : Links head next other s) (h
       heads = length-set head m (s + 1) ∙ k .heads;
       few = rw length-set (k .few);
       upto = rw length-set (omega arith);
-      first = set-holds (λ p z. z ≤ s + 1) head m (s + 1) (omega (arith, k .heads)) (omega arith) (λ p. omega (arith, k .first p));
+      first = set-holds (λ p z. z ≤ s + 1) head m (s + 1) (omega arith) (λ p. omega (arith, k .first p));
       backward = record {
         sizes = length-set other s y ∙ k .backward .sizes ∙ sym (length-set next s (getD head m 0));
-        back = set-holds (λ p z. z ≤ p) next s (getD head m 0) h (k .first m) (k .backward .back);
-        codes = set-holds (λ p z. z < 512) other s y (omega (arith, k .backward .sizes)) d (k .backward .codes);
+        back = set-holds (λ p z. z ≤ p) next s (getD head m 0) (k .first m) (k .backward .back);
+        codes = set-holds (λ p z. z < 512) other s y d (k .backward .codes);
       };
     }
 

@@ -11,8 +11,8 @@ use lib.ListN.{length, getD, set, length-set}
 use lib.Seq.{getD-set-same, getD-set-other}
 use borrow.Author.Tests.{eq-eqb, ne-eqb}
 use Rattle.places.specs.Loops.{oneIf}
+use Rattle.places.specs.Steps.{Blank}
 use Rattle.places.proofs.Loops.{one-at-most}
-use Rattle.side_table.specs.Table.{Blank}
 use Rattle.closedness.specs.Steps.{codesAt, times, Chain, Lists, gapOf, Room, Raised, Tallied, Uneven, Even}
 use Rattle.closedness.proofs.Gap.{gap-zero, gap-none, gap-some}
 

@@ -8,9 +8,9 @@ ghost use lib.ListN.{length, getD, set};
 ghost use Rattle.places.specs.Lent.{old, new};
 ghost use Rattle.places.specs.Limits.{mostVertices, mostCorners};
 ghost use Rattle.places.specs.Lists.{Each};
+ghost use Rattle.places.specs.Steps.{Blank};
 ghost use Rattle.exact.specs.Sides.{closedOf};
 ghost use Rattle.cell.specs.Faces.{facesOf, rises};
-ghost use Rattle.side_table.specs.Table.{Blank};
 ghost use Rattle.closedness.specs.Steps.{lowerOf, codeOf, oppositeOf, Chain, Backward, Links, Unlinked, Lists, Gains};
 ghost use Rattle.closedness.specs.Steps.{push, pushFace, pushFaces, gapOf, Room, Raised, Tallied, Even};
 
@@ -36,14 +36,6 @@ fn opposite(c: usize) -> usize
     ensures { λ r. ⌜ (r ≡ oppositeOf c) × (r < 512) ⌝ }
 {
     if c < 256 { c + 256 } else { c - 256 }
-}
-
-// What stands at place i, as a place or a code.
-fn read(list: &[u16], i: usize) -> usize
-    requires { ⌜ i < length (now list) ⌝ }
-    ensures { λ r. ⌜ (r ≡ getD (old list) i 0) × (r < 65536) ⌝ }
-{
-    list[i] as usize
 }
 
 // The side at place s, from a to b, becomes the first of the chain of its lower end. One that runs from a vertex to itself is in no chain.
@@ -120,8 +112,8 @@ fn tally_chain(tally: &mut [u32], next: &[u16], other: &[u16], first: usize) -> 
     let mut h = first;
     let mut gap = 0;
     while h > 0 {
-        gap = raise(tally, read(other, h - 1), gap);
-        h = read(next, h - 1);
+        gap = raise(tally, places::read(other, h - 1), gap);
+        h = places::read(next, h - 1);
     }
     gap
 }
@@ -135,7 +127,7 @@ fn even_chains(tally: &mut [u32], head: &[u16], next: &[u16], other: &[u16], v: 
 {
     let mut m = 0;
     while m < v {
-        if tally_chain(tally, next, other, read(head, m)) > 0 {
+        if tally_chain(tally, next, other, places::read(head, m)) > 0 {
             return false;
         }
         m += 1;

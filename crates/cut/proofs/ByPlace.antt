@@ -13,17 +13,17 @@ use Rattle.places.specs.Ring.{placesBelow, prevOf, nextOf, earOf}
 use Rattle.places.specs.declared.Found.{Found}
 use Rattle.places.specs.declared.Found.the-variants.{At, Nothing}
 use Rattle.places.proofs.Lists.{map-at, each-head, each-tail, each-without}
-use Rattle.places.proofs.Rings.{prev-below, next-below, length-places, place-at}
+use Rattle.places.proofs.Rings.{prev-below, next-below, length-places, place-at, places-below}
 use Rattle.flat.specs.Points.{Point, cornersOf}
 use Rattle.flat.specs.Flat.{pointOf, pointsOf}
 use Rattle.flat.specs.Steps.{Inside}
 use Rattle.flat.proofs.Corners.{length-corners, corner-at}
 use Rattle.next_corner.specs.NextCorner.{directionOf}
-use Rattle.next_corner.proofs.NextCorner.{choose-below}
 use Rattle.cut.specs.Cut.{Cut, nothing, cutWith, cutRing, nextCornerOf, cutIn, axisFor, cutOf, cutByPlace, ringAt, ByPlace}
 use Rattle.cut.specs.Steps.{Within, InOrder, Shown}
 use Rattle.cut.specs.declared.Counts.{Counts}
-use Rattle.cut.proofs.Going.{ring-long, whole-ring, whole-within, ring-without}
+use Rattle.cut.proofs.Facts.{choice-below}
+use Rattle.cut.proofs.Going.{ring-long, whole-ring, ring-without}
 
 -- the places of a cut looked up in the face
 abbrev lookedUp : List ℕ → Cut → Cut
@@ -63,12 +63,6 @@ module _ (vs : List Point) (face : List ℕ) where
     unfolding nextCornerOf
     choice-alike ks w = rw (points-alike axis ks w)
 
-    choice-below : (k : ℕ) (ks : List ℕ) → byPlace ks ≡ At k → k < length ks
-    unfolding nextCornerOf pointsOf
-    choice-below k ks e =
-        let many = length-map ks (pointOf (cornersOf vs face) axis) in
-        omega (arith, choose-below (pointsOf (cornersOf vs face) axis ks) dir k e, many)
-
     rings-alike : (more : ℕ) (ks : List ℕ) → Within face ks
         → cutRing byNumber more (ringAt face ks) ≡ lookedUp face (cutRing byPlace more ks)
     unfolding cutRing ringAt
@@ -79,14 +73,16 @@ module _ (vs : List Point) (face : List ℕ) where
             → ((js : List ℕ) → Within face js → cutRing byNumber more (ringAt face js) ≡ lookedUp face (cutRing byPlace more js))
             → cutWith f (ringAt face ks) (cutRing byNumber more) ≡ lookedUp face (cutWith f ks (cutRing byPlace more))
         go Nothing e ih = refl
-        go (At k) e ih = rw (ear-looked face k ks (choice-below k ks e), ← ring-without face k ks, ih (without k ks) (each-without k ks w))
+        go (At k) e ih =
+            let below = choice-below (cornersOf vs face) axis dir ks k e in
+            rw (ear-looked face k ks below, ← ring-without face k ks, ih (without k ks) (each-without k ks w))
 
-  -- ---- the whole face: its places are in order, and looked up they are the face
+  -- ---- the whole face: its places are its own, and looked up in order they are the face
+  places-within : Within face (placesBelow (length face))
+  places-within = places-below (length face)
+
   order : InOrder (placesBelow (length face))
   order k h = place-at (length face) k (omega (arith, length-places (length face)))
-
-  places-within : Within face (placesBelow (length face))
-  places-within = whole-within face (placesBelow (length face)) order (length-places (length face))
 
   pub places-ring : ringAt face (placesBelow (length face)) ≡ face
   places-ring = whole-ring face (placesBelow (length face)) order (length-places (length face))

@@ -8,6 +8,7 @@ use native.Mathlib.Omega.{arith}
 use borrow.Author.Tests.{ltb-true, ltb-false}
 use lib.Dec.{ltb}
 use lib.ListN.{length, length-map}
+use lib.Ieee.{Float}
 use lib.IntN.{ℤ, pos, negℤ, _+ℤ_, +ℤ-assoc, +ℤ-idl, +ℤ-idr}
 use Rattle.places.specs.Lists.{Each, without}
 use Rattle.places.specs.Ring.{sides, earOf}
@@ -36,7 +37,7 @@ pub record Kept (choose : List ℕ → Found) (P : List ℕ → Cut → Type 0) 
   pub stop : (r : List ℕ) → 4 ≤ length r → choose r ≡ Nothing → P r (record { triangles = []; left = r })
   pub clip : (k : ℕ) (r : List ℕ) (c : Cut) → 4 ≤ length r → k < length r → P (without k r) c → P r (clipped k r c)
 
-module _ (choose : List ℕ → Found) (P : List ℕ → Cut → Type 0) (valid : (r : List ℕ) (k : ℕ) → choose r ≡ At k → k < length r)
+module _ (choose : List ℕ → Found) (P : List ℕ → Cut → Type 0) (below : (r : List ℕ) (k : ℕ) → choose r ≡ At k → k < length r)
     (p : Kept choose P) where
   ring-all : (more : ℕ) (r : List ℕ) → length r ≡ more + 3 → P r (cutRing choose more r)
   unfolding cutRing
@@ -47,19 +48,18 @@ module _ (choose : List ℕ → Found) (P : List ℕ → Cut → Type 0) (valid 
           → P r (cutWith f r (cutRing choose more))
       go Nothing e ih = p .stop r (omega arith) e
       go (At k) e ih =
-          let l : k < length r = valid r k e in
+          let l : k < length r = below r k e in
           p .clip k r (cutRing choose more (without k r)) (omega arith) l (ih (without k r) (omega (arith, length-without k r l)))
+
+-- a corner that is chosen is one of the ring
+pub choice-below : (vs : List Point) (axis : ℕ) (dir : Float) (r : List ℕ) (k : ℕ) → nextCornerOf vs axis dir r ≡ At k → k < length r
+unfolding nextCornerOf pointsOf
+choice-below vs axis dir r k e = omega (arith, choose-below (pointsOf vs axis r) dir k e, length-map r (pointOf vs axis))
 
 module _ (vs : List Point) (face : List ℕ) where
   -- the choice that a face's rings are cut by
   abbrev pub choice : List ℕ → Found
   choice = nextCornerOf vs (axisFor vs face) (directionFor vs face)
-
-  valid : (r : List ℕ) (k : ℕ) → choice r ≡ At k → k < length r
-  unfolding nextCornerOf pointsOf
-  valid r k e =
-      let many = length-map r (pointOf vs (axisFor vs face)) in
-      omega (arith, choose-below (pointsOf vs (axisFor vs face) r) (directionFor vs face) k e, many)
 
   pub cut-all : (P : List ℕ → Cut → Type 0) → Kept choice P → P face (cutOf vs face)
   unfolding cutOf cutIn directionFor
@@ -67,7 +67,9 @@ module _ (vs : List Point) (face : List ℕ) where
     where
       go : (b : Bool) → ltb (length face) 3 ≡ b → P face (cond b nothing (cutIn vs (axisFor vs face) face))
       go true e = p .small face (ltb-true (length face) 3 e)
-      go false e = ring-all choice P valid p (length face - 3) face (omega (arith, ltb-false (length face) 3 e))
+      go false e =
+          let below = choice-below vs (axisFor vs face) (directionFor vs face) in
+          ring-all choice P below p (length face - 3) face (omega (arith, ltb-false (length face) 3 e))
 
 -- ---- how many: n − 2, or fewer with a ring of four or more left, of which no corner is chosen
 pub data Ends (choose : List ℕ → Found) (r : List ℕ) (c : Cut) : Type 0 where

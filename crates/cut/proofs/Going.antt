@@ -80,7 +80,7 @@ whole-ring face ks o e =
     let g : i < length ks = omega arith in
     map-at look ks i 0 0 g ∙ ap look (o i g))
 
-pub whole-within : (face ks : List ℕ) → InOrder ks → length ks ≡ length face → Within face ks
+whole-within : (face ks : List ℕ) → InOrder ks → length ks ≡ length face → Within face ks
 whole-within face ks o e = record { holds = λ k h. rw (o k h) (omega arith) }
 
 -- where all are places of the face, so are the first m, and so are all when one of those is removed

@@ -13,8 +13,8 @@ use Rattle.places.specs.declared.Found.the-variants.{At, Nothing}
 use Rattle.cut.specs.Cut.{Cut, ringAt}
 use Rattle.cut.specs.declared.Counts.{Counts}
 
--- ---- a ring that is kept as places of a face (its corners are `ringAt` these)
--- they are all places of the face
+-- ---- a ring of a face is kept as a list of places of the face, and its corners are those that stand there (`ringAt`)
+-- all numbers of a list are places of the face
 abbrev pub Within : List ℕ → List ℕ → Type 0
 Within face ks = Each 0 (λ k. k < length face) ks
 

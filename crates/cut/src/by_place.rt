@@ -64,7 +64,7 @@ fn by_place_16(coords: &[f64], face: &[u32], out: &mut [[u32; 3]]) -> crate::Cou
     ensures { λ r. ⌜ Shown (cutByPlace (verticesOf (old coords)) (old face)) r (old out) (new out) ⌝ }
 {
     let n = face.len();
-    let mut points = [0.0f64; 48];
+    let mut points = [0.0f64; 3 * 16];
     let mut order = [0u32; 16];
     cut_copied(coords, face, &mut points[..n * 3], &mut order[..n], out)
 }
@@ -75,7 +75,7 @@ fn by_place_128(coords: &[f64], face: &[u32], out: &mut [[u32; 3]]) -> crate::Co
     ensures { λ r. ⌜ Shown (cutByPlace (verticesOf (old coords)) (old face)) r (old out) (new out) ⌝ }
 {
     let n = face.len();
-    let mut points = [0.0f64; 384];
+    let mut points = [0.0f64; 3 * 128];
     let mut order = [0u32; 128];
     cut_copied(coords, face, &mut points[..n * 3], &mut order[..n], out)
 }

@@ -1,10 +1,10 @@
--- The answer of `is_cut`: no where the number of triangles or their places are wrong; and once both are right, the triangles are a cut
--- exactly where they are paired.
+-- The answer of `is_cut`: where the number of triangles or the places of one are wrong the test is no, since it asks for both first; where
+-- both are right the triangles are a cut exactly where each place is paired, and two answers that are yes in the same cases are the same.
 use mathlib.Core.Path.{_≡_, refl, sym, _∙_}
 use mathlib.Core.Logic.{_↔_, Iff·trans}
 use mathlib.Core.Bool.{Bool, true, false, _&&_}
 use mathlib.Core.List.{List, []}
-use Prim.Native.Nat.{ℕ, _+_, _*_, _/_, _<_, _≤_}
+use Prim.Native.Nat.{ℕ, _+_, _/_, _≤_}
 use native.Mathlib.Omega.{arith}
 use lib.Dec.{eqb}
 use lib.ListN.{length, getD}
@@ -12,8 +12,7 @@ use borrow.Author.Tests.{ne-eqb}
 use Rattle.places.specs.Lists.{Each}
 use Rattle.places.specs.Loops.{anyOf}
 use Rattle.places.specs.Stored.{inThrees}
-use Rattle.places.proofs.Lists.{each-nil, each-cons}
-use Rattle.places.proofs.Stored.{length-threes, threes-at}
+use Rattle.places.proofs.Stored.{length-threes, each-threes}
 use Rattle.exact.proofs.Conditions.{none-each}
 use Rattle.cut_check.specs.CutCheck.{Different, notDifferent, isCutOf}
 use Rattle.cut_check.specs.Steps.{Paired, CheckedCorners}
@@ -21,12 +20,12 @@ use Rattle.cut_check.proofs.Test.{different-is, cut-test}
 use Rattle.cut_check.proofs.Pairs.{paired-cut}
 
 -- ---- no, before the sides are looked at
--- the number is wrong
+-- where the number of triangles is wrong
 pub wrong-number : (n : ℕ) (c : List ℕ) → (length c / 3 + 2 ≡ n → ⊥) → false ≡ isCutOf n (inThrees c)
 unfolding isCutOf
 wrong-number n c h = rw (ne-eqb (length (inThrees c) + 2) n (λ e. h (omega (arith, length-threes c))))
 
--- a triangle has not three different places
+-- where a triangle has not three different places
 pub not-different : (n : ℕ) (c : List ℕ) {r : Bool} → r ≡ anyOf notDifferent (inThrees c) → r ≡ true → false ≡ isCutOf n (inThrees c)
 unfolding isCutOf
 not-different n c e q = rw (← e, q) (go (eqb (length (inThrees c) + 2) n) _)
@@ -35,19 +34,8 @@ not-different n c e q = rw (← e, q) (go (eqb (length (inThrees c) + 2) n) _)
     go true s = refl
     go false s = refl
 
--- ---- and the sides
--- each triangle is of places of the face
-threes-below : {n : ℕ} {c : List ℕ} → CheckedCorners n c → Each [] (Each 0 (λ p. p < n)) (inThrees c)
-threes-below {n} {c} k = record { holds = λ i h. at i (omega (arith, length-threes c)) }
-  where
-    at : (i : ℕ) → i < length c / 3 → Each 0 (λ p. p < n) (getD (inThrees c) i [])
-    at i h =
-        let below = k .below in
-        rw (threes-at c i 0 h)
-        (each-cons (below .holds (i * 3) (omega arith))
-        (each-cons (below .holds (i * 3 + 1) (omega arith)) (each-cons (below .holds (i * 3 + 2) (omega arith)) each-nil)))
-
--- two answers that are yes in the same cases
+-- ---- yes or no by the sides
+-- two answers that are yes in the same cases are the same
 same-answer : (a b : Bool) → ((a ≡ true) ↔ (b ≡ true)) → a ≡ b
 same-answer true b i = sym (i .0 refl)
 same-answer false true i = i .1 refl
@@ -58,6 +46,6 @@ pub paired-is-cut : {n : ℕ} {c : List ℕ} {r s : Bool} → 3 ≤ n → Checke
 paired-is-cut {n} {c} {r} h k e q f i =
     let each = none-each notDifferent [] (inThrees c) .0 (sym q ∙ f) in
     let apart : Each [] Different (inThrees c) = record { holds = λ j g. different-is (getD (inThrees c) j []) .0 (each .holds j g) } in
-    let cut = paired-cut n (inThrees c) h (threes-below k) (omega (arith, length-threes c)) apart in
+    let cut = paired-cut n (inThrees c) h (each-threes c (k .below)) (omega (arith, length-threes c)) apart in
     let test = cut-test n (inThrees c) in
     same-answer r (isCutOf n (inThrees c)) (Iff·trans i (Iff·trans cut (test .1, test .0)))

@@ -12,7 +12,9 @@ use lib.Dec.{eqb}
 use lib.ListN.{length, getD, set, length-set}
 use lib.Seq.{getD-set-same, getD-set-other}
 use borrow.Author.Tests.{eq-eqb, ne-eqb}
-use Rattle.cut_check.specs.Steps.{cornersAt, Chain, Backward, Lists, Zeros}
+use Rattle.places.specs.Steps.{Blank}
+use Rattle.places.proofs.Stamps.{set-holds}
+use Rattle.cut_check.specs.Steps.{cornersAt, Chain, Backward, Lists}
 
 -- the chain of a place starts at one of the first s corners, or is empty
 pub chain-within : (next c : List ℕ) (a h s : ℕ) → Chain next h (cornersAt a c s) → h ≤ s
@@ -25,15 +27,15 @@ chain-within next c a h (suc s) t = go (eqb (getD c s 0) a) t (chain-within next
     go false t earlier = omega (arith, earlier t)
 
 -- ---- before the first corner
-pub lists-start : {head next c : List ℕ} → Zeros head → Lists head next c 0
+pub lists-start : {head next c : List ℕ} → Blank head → Lists head next c 0
 unfolding cornersAt
-lists-start z = record { chain = λ a. omega (arith, z .most a) }
+lists-start z = record { chain = λ a. omega (arith, z .zero a) }
 
-pub backward-start : {next c : List ℕ} → length next ≡ length c → Zeros next → Backward next c
-backward-start e z = record { sizes = e; back = λ p. omega (arith, z .most p) }
+pub backward-start : {next c : List ℕ} → length next ≡ length c → Blank next → Backward next c
+backward-start e z = record { sizes = e; back = λ p. omega (arith, z .zero p) }
 
 -- ---- one more corner
--- what is stored at a corner that a chain does not reach
+-- what is stored at a corner that a chain does not reach leaves the chain as it is
 chain-keep : {next c : List ℕ} (s x h : ℕ) (ps : List ℕ) → Backward next c → h ≤ s → Chain next h ps → Chain (set next s x) h ps
 chain-keep s x h [] b g t = t
 chain-keep {next} s x h (p ∷ ps) b g t =
@@ -42,19 +44,18 @@ chain-keep {next} s x h (p ∷ ps) b g t =
     let rest = chain-keep s x (getD next p 0) ps b (omega (arith, b .back p)) (t .1) in
     (start, rw (getD-set-other next s p x 0 n) rest)
 
-module _ {head next c : List ℕ} {s : ℕ} (a : ℕ) (k : Backward next c) (t : Lists head next c s) (h : s < length c) where
+module _ {head next c : List ℕ} {s : ℕ} (a : ℕ) (k : Backward next c) (t : Lists head next c s) where
   pub backward-more : Backward (set next s (getD head a 0)) c
-  backward-more = record { sizes = length-set next s (getD head a 0) ∙ k .sizes; back = λ p. go p (ℕ-discrete p s) }
-    where
-      go : (p : ℕ) → Dec (p ≡ s) → getD (set next s (getD head a 0)) p 0 ≤ p
-      go p (yes e) =
-          let stored = getD-set-same next s (getD head a 0) 0 (omega (arith, k .sizes)) in
-          rw (e, stored) (chain-within next c a (getD head a 0) s (t .chain a))
-      go p (no n) = rw (getD-set-other next s p (getD head a 0) 0 n) (k .back p)
+  backward-more =
+      let first = chain-within next c a (getD head a 0) s (t .chain a) in
+      record {
+        sizes = length-set next s (getD head a 0) ∙ k .sizes;
+        back = set-holds (λ p z. z ≤ p) next s (getD head a 0) first (k .back);
+      }
 
-  pub lists-more : a ≡ getD c s 0 → a < length head → Lists (set head a (s + 1)) (set next s (getD head a 0)) c (s + 1)
+  pub lists-more : s < length c → a ≡ getD c s 0 → a < length head → Lists (set head a (s + 1)) (set next s (getD head a 0)) c (s + 1)
   unfolding cornersAt
-  lists-more e g = record { chain = λ i. rw (add-one s) (go i (ℕ-discrete i a)) }
+  lists-more h e g = record { chain = λ i. rw (add-one s) (go i (ℕ-discrete i a)) }
     where
       kept : (i : ℕ) → Chain (set next s (getD head a 0)) (getD head i 0) (cornersAt i c s)
       kept i = chain-keep s (getD head a 0) (getD head i 0) (cornersAt i c s) k (chain-within next c i _ s (t .chain i)) (t .chain i)
@@ -67,7 +68,7 @@ module _ {head next c : List ℕ} {s : ℕ} (a : ℕ) (k : Backward next c) (t :
       go i (no n) = rw (getD-set-other head a i (suc s) 0 n, ne-eqb (getD c s 0) i (λ z. n (sym z ∙ sym e))) (kept i)
 
 -- ---- along a chain
--- it goes on at an earlier corner
+-- a chain goes on at an earlier corner
 pub goes-back : {next c : List ℕ} {h h′ : ℕ} → Backward next c → 0 < h → h′ ≡ getD next (h - 1) 0 → h′ < h
 goes-back {next} {c} {h} b g e = omega (arith, b .back (h - 1))
 

@@ -15,7 +15,7 @@ use Rattle.places.specs.Stored.{inThrees}
 use Rattle.places.proofs.Stored.{length-threes, threes-at}
 use Rattle.exact.specs.Sides.{count, runs}
 use Rattle.exact.proofs.Balance.{and-comm}
-use Rattle.exact.proofs.Reversed.{runs-none, runs-cons}
+use Rattle.exact.proofs.Reversed.{runs-none, runs-last}
 use Rattle.cut_check.specs.Steps.{afterOf, beforeOf, placeAfter, placeBefore, cornersAt, times, CheckedCorners}
 
 -- ---- neighbours in a triangle
@@ -33,17 +33,17 @@ before-below s m h e = go (eqb (s % 3) 0) refl
     go true q = let p : s % 3 ≡ 0 = eqb-true (s % 3) 0 q in omega arith
     go false q = omega arith
 
-pub after-within : {n i : ℕ} {c : List ℕ} (s : ℕ) → CheckedCorners n c → s < length c → i ≡ afterOf s → i < length c
-after-within {n} {i} {c} s k h e = rw e (after-below s (length c) h (k .threes))
-
-pub before-within : {n i : ℕ} {c : List ℕ} (s : ℕ) → CheckedCorners n c → s < length c → i ≡ beforeOf s → i < length c
-before-within {n} {i} {c} s k h e = rw e (before-below s (length c) h (k .threes))
-
--- the place of a corner
+-- what stands at a corner, at the one after it and at the one before it is a place of the face
 pub place-below : {n a s : ℕ} {c : List ℕ} → CheckedCorners n c → s < length c → a ≡ getD c s 0 → a < n
 place-below {n} {a} {s} {c} k h e = rw e (k .below .holds s h)
 
--- those of the three corners of the triangle k
+pub after-place : {n b : ℕ} {c : List ℕ} (s : ℕ) → CheckedCorners n c → s < length c → b ≡ placeAfter c s → b < n
+after-place {n} {b} {c} s k h e = place-below k (after-below s (length c) h (k .threes)) e
+
+pub before-place : {n b : ℕ} {c : List ℕ} (s : ℕ) → CheckedCorners n c → s < length c → b ≡ placeBefore c s → b < n
+before-place {n} {b} {c} s k h e = place-below k (before-below s (length c) h (k .threes)) e
+
+-- the corner after each of the three corners of the triangle k, and the one before it
 after-first : (k : ℕ) → afterOf (k * 3) ≡ k * 3 + 1
 after-first k = rw (ne-eqb (k * 3 % 3) 2 (λ e. absurd (omega arith)))
 
@@ -84,11 +84,7 @@ times-more f i j c s = go (eqb (getD c s 0) i)
     go false = omega arith
 
 -- ---- the sides of the first k triangles
-runs-last : (i j : ℕ) (ts : List (List ℕ)) (t : List ℕ) → runs i j (ts ++ t ∷ []) ≡ runs i j ts + count i j (sides t)
-runs-last i j [] t = omega (arith, runs-cons i j t [], runs-none i j)
-runs-last i j (u ∷ ts) t = omega (arith, runs-cons i j u (ts ++ t ∷ []), runs-cons i j u ts, runs-last i j ts t)
-
--- a triangle more: its three corners
+-- one triangle more has the sides of its three corners
 runs-three : (c : List ℕ) (i j k : ℕ) → k < length c / 3
     → runs i j (take (suc k) (inThrees c)) ≡ runs i j (take k (inThrees c))
     + count i j (sides (getD c (k * 3) 0 ∷ getD c (k * 3 + 1) 0 ∷ getD c (k * 3 + 2) 0 ∷ []))
@@ -112,21 +108,21 @@ module _ (c : List ℕ) (i j : ℕ) where
       (times-more f i j c (suc (k * 3))
       ∙ ap (λ x. oneIf (eqb (getD c (suc (k * 3)) 0) i && eqb (f (suc (k * 3))) j) + x) (times-more f i j c (k * 3))))
 
-  leaving : (k : ℕ) → k ≤ length c / 3 → runs i j (take k (inThrees c)) ≡ times j (map (placeAfter c) (cornersAt i c (k * 3)))
+  runs-leaving : (k : ℕ) → k ≤ length c / 3 → runs i j (take k (inThrees c)) ≡ times j (map (placeAfter c) (cornersAt i c (k * 3)))
   unfolding cornersAt countOf
-  leaving zero h = runs-none i j
-  leaving (suc k) h =
+  runs-leaving zero h = runs-none i j
+  runs-leaving (suc k) h =
       let three : times j (map (placeAfter c) (cornersAt i c (suc k * 3)))
       ≡ oneIf (eqb (getD c (k * 3 + 2) 0) i && eqb (getD c (k * 3) 0) j)
       + (oneIf (eqb (getD c (k * 3 + 1) 0) i && eqb (getD c (k * 3 + 2) 0) j)
       + (oneIf (eqb (getD c (k * 3) 0) i && eqb (getD c (k * 3 + 1) 0) j) + times j (map (placeAfter c) (cornersAt i c (k * 3)))))
       = rw (after-first k, after-second k, after-third k) at (times-three (placeAfter c) k) in
-      omega (arith, three, runs-three c i j k h, leaving k (omega arith))
+      omega (arith, three, runs-three c i j k h, runs-leaving k (omega arith))
 
-  coming : (k : ℕ) → k ≤ length c / 3 → runs j i (take k (inThrees c)) ≡ times j (map (placeBefore c) (cornersAt i c (k * 3)))
+  runs-coming : (k : ℕ) → k ≤ length c / 3 → runs j i (take k (inThrees c)) ≡ times j (map (placeBefore c) (cornersAt i c (k * 3)))
   unfolding cornersAt countOf
-  coming zero h = runs-none j i
-  coming (suc k) h =
+  runs-coming zero h = runs-none j i
+  runs-coming (suc k) h =
       let x = getD c (k * 3) 0 in
       let y = getD c (k * 3 + 1) 0 in
       let z = getD c (k * 3 + 2) 0 in
@@ -141,16 +137,16 @@ module _ (c : List ℕ) (i j : ℕ) where
         and-comm (eqb y i) (eqb x j),
         and-comm (eqb x i) (eqb z j),
       ) at (times-three (placeBefore c) k) in
-      omega (arith, three, runs-three c j i k h, coming k (omega arith))
+      omega (arith, three, runs-three c j i k h, runs-coming k (omega arith))
 
 pub runs-after : (c : List ℕ) (i j : ℕ) → length c % 3 ≡ 0
     → runs i j (inThrees c) ≡ times j (map (placeAfter c) (cornersAt i c (length c)))
 runs-after c i j h =
     let e : length c / 3 * 3 ≡ length c = omega arith in
-    rw (take-all (length c / 3) (inThrees c) (omega (arith, length-threes c)), e) at (leaving c i j (length c / 3) (omega arith))
+    rw (take-all (length c / 3) (inThrees c) (omega (arith, length-threes c)), e) at (runs-leaving c i j (length c / 3) (omega arith))
 
 pub runs-before : (c : List ℕ) (i j : ℕ) → length c % 3 ≡ 0
     → runs j i (inThrees c) ≡ times j (map (placeBefore c) (cornersAt i c (length c)))
 runs-before c i j h =
     let e : length c / 3 * 3 ≡ length c = omega arith in
-    rw (take-all (length c / 3) (inThrees c) (omega (arith, length-threes c)), e) at (coming c i j (length c / 3) (omega arith))
+    rw (take-all (length c / 3) (inThrees c) (omega (arith, length-threes c)), e) at (runs-coming c i j (length c / 3) (omega arith))

@@ -4,7 +4,7 @@ pub mod Pairs
 pub mod Accepted
 pub mod Corners
 pub mod Chains
-pub mod Marks
-pub mod Places
+pub mod Stamps
+pub mod Pairing
 pub mod Same
 pub mod Answers

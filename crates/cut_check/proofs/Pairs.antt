@@ -27,7 +27,8 @@ pub record OnceEachWay (n : ℕ) (ts : List (List ℕ)) : Type 0 where
   pub back : (i j : ℕ) → runsBeside n ts i j ≡ runsBeside n ts j i
   pub once : (i j : ℕ) → runsBeside n ts i j ≤ 1
 
--- what both say of one side, by whether it is the face's and whether its back is: f and g say that, a and b how often the triangles have it
+-- what `IsCut` and `OnceEachWay` say of one side: f and g are whether it is the face's and whether its back is, a and b how often the
+-- triangles have it and its back
 cut-side : (f g : Bool) (a b : ℕ) → (f ≡ true → (a ≡ 1) × (b ≡ 0)) → (g ≡ true → (b ≡ 1) × (a ≡ 0))
     → (f ≡ false → g ≡ false → 0 < a + b → (a ≡ 1) × (b ≡ 1)) → (a + oneIf g ≡ b + oneIf f) × (a + oneIf g ≤ 1)
 cut-side true true a b own back other = absurd (omega (arith, own refl, back refl))
@@ -87,7 +88,7 @@ nothing-beside n i j ts b h =
     (rw (f .1) (omega arith), rw (f .0) (omega arith))
 
 -- ---- place by place
--- at most one, and only where there is one of the other
+-- each of two numbers is at most one, and 0 where the other is, exactly where they are the same and at most one
 pair-is : (a b : ℕ) → ((a ≤ oneIf (ltb 0 b)) × (b ≤ oneIf (ltb 0 a))) ↔ ((a ≡ b) × (a ≤ 1))
 pair-is zero zero = (λ p. (refl, omega arith), λ p. (omega arith, omega arith))
 pair-is zero (suc b) = (λ p. absurd (omega arith), λ p. absurd (omega arith))
@@ -103,12 +104,14 @@ module _ (n : ℕ) (ts : List (List ℕ)) where
     where
       side : (i j : ℕ) → (runsBeside n ts i j ≡ runsBeside n ts j i) × (runsBeside n ts i j ≤ 1)
       side i j = by-cases (decLt i n) (λ l. by-cases (decLt j n)
-          (λ m. pair-is (runsBeside n ts i j) (runsBeside n ts j i) .0 (p .pairs i j l, p .pairs j i m))
+          (λ m. pair-is (runsBeside n ts i j) (runsBeside n ts j i) .0 (p .paired i l .pairs j, p .paired j m .pairs i))
           (λ m. let z = nothing-beside n j i ts b (omega arith) in (omega arith, omega arith)))
           (λ l. let z = nothing-beside n i j ts b (omega arith) in (omega arith, omega arith))
 
   even-pairs : OnceEachWay n ts → Paired n ts
-  even-pairs e = record { pairs = λ i j _. pair-is (runsBeside n ts i j) (runsBeside n ts j i) .1 (e .back i j, e .once i j) .0 }
+  even-pairs e = record {
+    paired = λ i _. record { pairs = λ j. pair-is (runsBeside n ts i j) (runsBeside n ts j i) .1 (e .back i j, e .once i j) .0 };
+  }
 
 pub paired-cut : (n : ℕ) (ts : List (List ℕ)) → 3 ≤ n → Each [] (Each 0 (λ p. p < n)) ts → length ts + 2 ≡ n → Each [] Different ts
     → Paired n ts ↔ IsCut n ts

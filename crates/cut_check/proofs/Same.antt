@@ -1,4 +1,5 @@
--- Whether two of the three places of a triangle are the same, for `two_same` and `any_same`.
+-- Three places are doubled exactly where the first is the second or the third, or the second is the third; so what `two_same` says of the
+-- three corners of a triangle is whether its places are not different, as `any_same` asks.
 use mathlib.Core.Path.{_≡_, refl}
 use mathlib.Core.Bool.{Bool, true, false, _||_, cond}
 use mathlib.Core.List.{List, [], _∷_}
@@ -21,7 +22,7 @@ doubled-three a b c = go (eqb a b) (eqb a c) (eqb b c)
     go false false true = refl
     go false false false = refl
 
--- of the triangle t, whose places are x, y and z
+-- whether the triangle t, whose places are x, y and z, has a place twice
 pub not-different-at : {t x y z : ℕ} {r s : Bool} (c : List ℕ) → t < length c / 3 → x ≡ getD c (t * 3) 0 → y ≡ getD c (t * 3 + 1) 0
     → z ≡ getD c (t * 3 + 2) 0 → r ≡ doubled (x ∷ y ∷ z ∷ []) → r ≡ s → notDifferent (getD (inThrees c) t []) ≡ s
 unfolding notDifferent

@@ -4,19 +4,19 @@ use mathlib.Core.Path.{_≡_, refl}
 use mathlib.Core.Logic.{_↔_, Iff·trans, Iff·and, by-cases}
 use mathlib.Core.Bool.{Bool, true, false, not, _&&_, _||_, true≢false}
 use mathlib.Core.List.{List, []}
-use Prim.Native.Nat.{ℕ, _+_, _-_, _<_}
+use Prim.Native.Nat.{ℕ, _+_, _<_}
 use native.Mathlib.Decide.{decLt}
 use native.Mathlib.Omega.{arith}
 use borrow.Author.Tests.{eqb-true, eq-eqb, not-true, not-false}
 use lib.Dec.{eqb}
-use lib.Ieee.Bits.{is-true}
 use lib.ListN.{length, getD}
 use Rattle.places.specs.Lists.{Each}
-use Rattle.places.specs.Loops.{anyOf, oneIf}
+use Rattle.places.specs.Loops.{anyOf}
 use Rattle.places.specs.Ring.{sides, placesBelow}
-use Rattle.exact.specs.Sides.{allSides, count, runs, everySide}
+use Rattle.places.proofs.Loops.{one-if}
+use Rattle.exact.specs.Sides.{allSides, runs, everySide}
 use Rattle.exact.specs.Facing.{occurs, doubled}
-use Rattle.exact.proofs.Test.{every-at, every-all}
+use Rattle.exact.proofs.Test.{every-is}
 use Rattle.exact.proofs.Conditions.{and-is, or-is, none-each, doubled-is}
 use Rattle.cut_check.specs.CutCheck.{Different, faceSide, notDifferent, ownWay, eachWay, isCutOf, CutTest}
 use Rattle.cut_check.proofs.FaceSides.{count-face}
@@ -29,22 +29,11 @@ number-is a n = (eqb-true a n, eq-eqb a n)
 two-are : (a b m n : ℕ) → (eqb a m && eqb b n ≡ true) ↔ ((a ≡ m) × (b ≡ n))
 two-are a b m n = Iff·trans (and-is (eqb a m) (eqb b n)) (Iff·and (number-is a m) (number-is b n))
 
-one-if : (b : Bool) → 0 < oneIf b → b ≡ true
-one-if true h = refl
-one-if false h = absurd (omega arith)
-
--- the third, where the first two say no
+-- one of three says yes exactly where the third does unless one of the first two does
 third-is : (a b c : Bool) → ((a || b) || c ≡ true) ↔ (a ≡ false → b ≡ false → c ≡ true)
 third-is true b c = (λ e p q. absurd (true≢false p), λ h. refl)
 third-is false true c = (λ e p q. absurd (true≢false q), λ h. refl)
 third-is false false c = (λ e p q. e, λ h. h refl refl)
-
--- ---- what holds of every side of a list holds of each that occurs in it
-every-is : (p : ℕ → ℕ → Bool) (l : List (ℕ × ℕ)) → (everySide p l ≡ true) ↔ ((i j : ℕ) → 0 < count i j l → p i j ≡ true)
-every-is p l = (
-  λ e i j h. is-true (p i j) (every-at p i j (count i j l - 1) l (rw e tt) (omega arith)),
-  λ h. is-true (everySide p l) (every-all p l (λ i j o. rw (h i j o) tt)),
-)
 
 -- ---- the parts of `IsCut`
 pub different-is : (t : List ℕ) → (notDifferent t ≡ false) ↔ Different t

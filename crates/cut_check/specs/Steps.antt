@@ -1,6 +1,7 @@
 -- What functions below the gatehouse ask of and promise each other; no contract of a public entry speaks of these.
--- The triangles beside the face, which is taken backward; the corners of each place, linked in a chain; and the marks that are kept along
--- a chain. A corner is its number in the list of all corners, three a triangle; what stands there is its place in the face.
+-- The triangles beside the face, which is taken backward; the corners of each place, linked in a chain; and the stamps that are written
+-- and taken off along a chain. A corner is its number in the list of all corners, three a triangle; what stands there is its place in the
+-- face.
 use mathlib.Core.Path.{_≡_}
 use mathlib.Core.Bool.{Bool, true, false, cond}
 use mathlib.Core.List.{List, [], _∷_}
@@ -17,13 +18,17 @@ use Rattle.cut_check.specs.CutCheck.{faceSide}
 unfoldable pub runsBeside : ℕ → List (List ℕ) → ℕ → ℕ → ℕ
 runsBeside n ts i j = runs i j ts + oneIf (faceSide n j i)
 
--- from each place i to each j at most one side runs, and only where one comes back
-pub record Paired (n : ℕ) (ts : List (List ℕ)) : Type 0 where
-  pub pairs : (i j : ℕ) → i < n → runsBeside n ts i j ≤ oneIf (ltb 0 (runsBeside n ts j i))
-
--- the same from the place i alone
+-- from the place i at most one side runs to each place j, and only where one comes back
 pub record PairedAt (n : ℕ) (ts : List (List ℕ)) (i : ℕ) : Type 0 where
   pub pairs : (j : ℕ) → runsBeside n ts i j ≤ oneIf (ltb 0 (runsBeside n ts j i))
+
+-- each place below a is paired
+pub record PairedBelow (n : ℕ) (ts : List (List ℕ)) (a : ℕ) : Type 0 where
+  pub paired : (i : ℕ) → i < a → PairedAt n ts i
+
+-- each place of the face is paired
+abbrev pub Paired : ℕ → List (List ℕ) → Type 0
+Paired n ts = PairedBelow n ts n
 
 -- ---- corners
 -- the corner after s in its triangle, and the one before it
@@ -72,28 +77,20 @@ pub record Backward (next corners : List ℕ) : Type 0 where
 pub record Lists (head next corners : List ℕ) (s : ℕ) : Type 0 where
   pub chain : (a : ℕ) → Chain next (getD head a 0) (cornersAt a corners s)
 
--- ---- marks
--- no mark is above the stamp x
-pub record Marks (x : ℕ) (mark : List ℕ) : Type 0 where
-  pub most : (b : ℕ) → getD mark b 0 ≤ x
+-- ---- stamps
+-- own is written at each of the places bs
+unfoldable pub setAll : ℕ → List ℕ → List ℕ → List ℕ
+setAll own [] stamp = stamp
+setAll own (b ∷ bs) stamp = setAll own bs (set stamp b own)
 
--- a list of zeros
-abbrev pub Zeros : List ℕ → Type 0
-Zeros l = Marks 0 l
-
--- x is written at each of the places bs
-unfoldable pub marked : ℕ → List ℕ → List ℕ → List ℕ
-marked x [] mark = mark
-marked x (b ∷ bs) mark = marked x bs (set mark b x)
-
--- whether the places bs are marked, where a mark that is used is taken off
+-- whether the places bs have the stamp own, where a stamp that is used is taken off
 unfoldable pub taken : ℕ → List ℕ → List ℕ → Bool
-taken x [] mark = true
-taken x (b ∷ bs) mark =
-    let rest = taken x bs (set mark b 0) in
-    cond (eqb (getD mark b 0) x) rest false
+taken own [] stamp = true
+taken own (b ∷ bs) stamp =
+    let rest = taken own bs (set stamp b 0) in
+    cond (eqb (getD stamp b 0) own) rest false
 
--- r is the answer of `taken`, and where it is yes the marks that were used are off
-pub record Took (x : ℕ) (bs mark mark′ : List ℕ) (r : Bool) : Type 0 where
-  pub answer : r ≡ taken x bs mark
-  pub off : r ≡ true → mark′ ≡ marked 0 bs mark
+-- r is the answer of `taken`, and where it is yes the stamps that were used are off
+pub record Took (own : ℕ) (bs stamp stamp′ : List ℕ) (r : Bool) : Type 0 where
+  pub answer : r ≡ taken own bs stamp
+  pub off : r ≡ true → stamp′ ≡ setAll 0 bs stamp

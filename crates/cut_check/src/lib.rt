@@ -1,21 +1,23 @@
 // Whether triangles are a cut of a face of n corners, which are its places 0 to n - 1.
 // The face is taken backward beside the triangles: then each side that occurs, the face's own among them, must occur once each way.
-// The corners at the same place are linked in a chain, and marks are kept along each chain: time and room go by the corners.
+// The corners at the same place are linked in a chain, and stamps are written and taken off along each chain: time and room go by the
+// corners.
 ghost use mathlib.Core.Path.{_≡_};
 ghost use mathlib.Core.Logic.{_↔_};
 ghost use mathlib.Core.Bool.{true};
 ghost use mathlib.Core.List.{List, [], _∷_, map};
 ghost use Prim.Native.Nat.{ℕ, _+_, _*_, _/_, _<_, _≤_, _%_};
-ghost use lib.ListN.{length, getD};
+ghost use lib.ListN.{length};
 ghost use Rattle.places.specs.Lent.{old, new};
 ghost use Rattle.places.specs.Lists.{Each};
 ghost use Rattle.places.specs.Limits.{mostCheckedCorners, mostCheckedTriangles};
 ghost use Rattle.places.specs.Loops.{anyOf};
 ghost use Rattle.places.specs.Stored.{inThrees};
+ghost use Rattle.places.specs.Steps.{Blank, Fresh};
 ghost use Rattle.exact.specs.Facing.{doubled};
 ghost use Rattle.cut_check.specs.CutCheck.{notDifferent, isCutOf};
 ghost use Rattle.cut_check.specs.Steps.{Paired, PairedAt, afterOf, beforeOf, placeAfter, placeBefore, cornersAt, CheckedCorners};
-ghost use Rattle.cut_check.specs.Steps.{Chain, Backward, Lists, Marks, Zeros, marked, Took};
+ghost use Rattle.cut_check.specs.Steps.{Chain, Backward, Lists, setAll, Took};
 
 // The corner after s in its triangle, and the one before it.
 fn corner_after(s: usize) -> usize
@@ -32,12 +34,19 @@ fn corner_before(s: usize) -> usize
     if s % 3 == 0 { s + 2 } else { s - 1 }
 }
 
-// What stands at place i.
-fn read(list: &[u16], i: usize) -> usize
-    requires { ⌜ i < length (now list) ⌝ }
-    ensures { λ r. ⌜ (r ≡ getD (old list) i 0) × (r < 65536) ⌝ }
+// What stands at the corner after s in its triangle, and at the one before it.
+fn place_after(corners: &[u32], s: usize) -> usize
+    requires { ⌜ (s < length (now corners)) × (length (now corners) % 3 ≡ 0) × (length (now corners) ≤ 3 * mostCheckedTriangles) ⌝ }
+    ensures { λ r. ⌜ r ≡ placeAfter (old corners) s ⌝ }
 {
-    list[i] as usize
+    places::corner(corners, corner_after(s))
+}
+
+fn place_before(corners: &[u32], s: usize) -> usize
+    requires { ⌜ (s < length (now corners)) × (length (now corners) % 3 ≡ 0) × (length (now corners) ≤ 3 * mostCheckedTriangles) ⌝ }
+    ensures { λ r. ⌜ r ≡ placeBefore (old corners) s ⌝ }
+{
+    places::corner(corners, corner_before(s))
 }
 
 // Whether two of three places are the same.
@@ -74,7 +83,7 @@ fn any_same(corners: &[u32]) -> bool
 // Each corner becomes the first of the chain of its place.
 fn link(head: &mut [u16], next: &mut [u16], corners: &[u32])
     requires { ⌜ CheckedCorners (length (now head)) (now corners) × (length (now next) ≡ length (now corners)) ⌝ }
-    requires { ⌜ Zeros (now head) × Zeros (now next) ⌝ }
+    requires { ⌜ Blank (now head) × Blank (now next) ⌝ }
     ensures { λ _. ⌜ Backward (new next) (old corners) × Lists (new head) (new next) (old corners) (length (old corners)) ⌝ }
 {
     let m = corners.len();
@@ -87,37 +96,37 @@ fn link(head: &mut [u16], next: &mut [u16], corners: &[u32])
     }
 }
 
-// Marks each place from which a side comes to the place whose corners the chain holds.
-fn mark_before(mark: &mut [u16], next: &[u16], corners: &[u32], first: usize, stamp: u16)
-    requires { ⌜ CheckedCorners (length (now mark)) (now corners) × Backward (now next) (now corners) ⌝ }
+// Writes the stamp `own` at each place from which a side comes to the place whose corners the chain holds.
+fn stamp_before(stamp: &mut [u16], next: &[u16], corners: &[u32], first: usize, own: u16)
+    requires { ⌜ CheckedCorners (length (now stamp)) (now corners) × Backward (now next) (now corners) ⌝ }
     requires { ⌜ first ≤ length (now corners) ⌝ }
     ensures { λ _. ⌜ ((ps : List ℕ) → Chain (old next) first ps
-        → new mark ≡ marked stamp (map (placeBefore (old corners)) ps) (old mark)) ⌝ }
+        → new stamp ≡ setAll own (map (placeBefore (old corners)) ps) (old stamp)) ⌝ }
 {
     let mut h = first;
     while h > 0 {
-        let b = places::corner(corners, corner_before(h - 1));
-        mark[b] = stamp;
-        h = read(next, h - 1);
+        let b = place_before(corners, h - 1);
+        stamp[b] = own;
+        h = places::read(next, h - 1);
     }
 }
 
-// Whether the sides that leave the place whose corners the chain holds go to marked places, each to another: a mark that is used is taken
-// off.
-fn take_after(mark: &mut [u16], next: &[u16], corners: &[u32], first: usize, stamp: u16) -> bool
-    requires { ⌜ CheckedCorners (length (now mark)) (now corners) × Backward (now next) (now corners) ⌝ }
+// Whether the sides that leave the place whose corners the chain holds go to places that have the stamp `own`, each to another: a stamp
+// that is used is taken off.
+fn take_after(stamp: &mut [u16], next: &[u16], corners: &[u32], first: usize, own: u16) -> bool
+    requires { ⌜ CheckedCorners (length (now stamp)) (now corners) × Backward (now next) (now corners) ⌝ }
     requires { ⌜ first ≤ length (now corners) ⌝ }
     ensures { λ r. ⌜ ((ps : List ℕ) → Chain (old next) first ps
-        → Took stamp (map (placeAfter (old corners)) ps) (old mark) (new mark) r) ⌝ }
+        → Took own (map (placeAfter (old corners)) ps) (old stamp) (new stamp) r) ⌝ }
 {
     let mut h = first;
     while h > 0 {
-        let b = places::corner(corners, corner_after(h - 1));
-        if mark[b] != stamp {
+        let b = place_after(corners, h - 1);
+        if stamp[b] != own {
             return false;
         }
-        mark[b] = 0;
-        h = read(next, h - 1);
+        stamp[b] = 0;
+        h = places::read(next, h - 1);
     }
     true
 }
@@ -125,7 +134,7 @@ fn take_after(mark: &mut [u16], next: &[u16], corners: &[u32], first: usize, sta
 // Whether at the place a each side that leaves goes to another place, from which one comes back. The face, backward, comes from the place
 // after a and goes to the one before it.
 fn paired_at(
-    mark: &mut [u16],
+    stamp: &mut [u16],
     next: &[u16],
     corners: &[u32],
     first: usize,
@@ -134,30 +143,30 @@ fn paired_at(
 ) -> bool
     requires { ⌜ CheckedCorners n (now corners) × Backward (now next) (now corners) × (n ≤ mostCheckedCorners) × (a < n) ⌝ }
     requires { ⌜ Chain (now next) first (cornersAt a (now corners) (length (now corners))) ⌝ }
-    requires { ⌜ (length (now mark) ≡ n) × Marks a (now mark) ⌝ }
+    requires { ⌜ (length (now stamp) ≡ n) × Fresh (a + 1) (now stamp) ⌝ }
     ensures { λ r. ⌜ (r ≡ true) ↔ PairedAt n (inThrees (old corners)) a ⌝ }
-    ensures { λ r. ⌜ (r ≡ true → Marks (a + 1) (new mark)) ⌝ }
+    ensures { λ r. ⌜ (r ≡ true → Fresh (a + 1 + 1) (new stamp)) ⌝ }
 {
-    let stamp = (a + 1) as u16;
-    mark_before(mark, next, corners, first, stamp);
-    mark[places::next(a, n)] = stamp;
-    if !take_after(mark, next, corners, first, stamp) {
+    let own = (a + 1) as u16;
+    stamp_before(stamp, next, corners, first, own);
+    stamp[places::next(a, n)] = own;
+    if !take_after(stamp, next, corners, first, own) {
         return false;
     }
-    mark[places::prev(a, n)] == stamp
+    stamp[places::prev(a, n)] == own
 }
 
-// Whether at each place every side that leaves goes to another place, from which one comes back. What a place leaves marked needs no
-// clearing, since each place has a stamp of its own.
-fn paired(mark: &mut [u16], head: &[u16], next: &[u16], corners: &[u32], n: usize) -> bool
+// Whether at each place every side that leaves goes to another place, from which one comes back. The stamps that a place leaves need no
+// clearing, since each place has one of its own.
+fn paired(stamp: &mut [u16], head: &[u16], next: &[u16], corners: &[u32], n: usize) -> bool
     requires { ⌜ CheckedCorners n (now corners) × Backward (now next) (now corners) × (n ≤ mostCheckedCorners) ⌝ }
     requires { ⌜ (length (now head) ≡ n) × Lists (now head) (now next) (now corners) (length (now corners)) ⌝ }
-    requires { ⌜ (length (now mark) ≡ n) × Zeros (now mark) ⌝ }
+    requires { ⌜ (length (now stamp) ≡ n) × Blank (now stamp) ⌝ }
     ensures { λ r. ⌜ (r ≡ true) ↔ Paired n (inThrees (old corners)) ⌝ }
 {
     let mut a = 0;
     while a < n {
-        if !paired_at(mark, next, corners, read(head, a), a, n) {
+        if !paired_at(stamp, next, corners, places::read(head, a), a, n) {
             return false;
         }
         a += 1;
@@ -169,31 +178,31 @@ fn paired(mark: &mut [u16], head: &[u16], next: &[u16], corners: &[u32], n: usiz
 // a triangle.
 fn paired_in(
     head: &mut [u16],
-    mark: &mut [u16],
+    stamp: &mut [u16],
     next: &mut [u16],
     corners: &[u32],
     n: usize,
 ) -> bool
     requires { ⌜ CheckedCorners n (now corners) × (n ≤ mostCheckedCorners) ⌝ }
-    requires { ⌜ (length (now head) ≡ n) × (length (now mark) ≡ n) × (length (now next) ≡ length (now corners)) ⌝ }
-    requires { ⌜ Zeros (now head) × Zeros (now mark) × Zeros (now next) ⌝ }
+    requires { ⌜ (length (now head) ≡ n) × (length (now stamp) ≡ n) × (length (now next) ≡ length (now corners)) ⌝ }
+    requires { ⌜ Blank (now head) × Blank (now stamp) × Blank (now next) ⌝ }
     ensures { λ r. ⌜ (r ≡ true) ↔ Paired n (inThrees (old corners)) ⌝ }
 {
     link(head, next, corners);
-    paired(mark, head, next, corners, n)
+    paired(stamp, head, next, corners, n)
 }
 
-// Whether each side occurs once each way, with lists of its own. One function a size: a small face does not clear the lists of a large
-// one.
+// Whether each side occurs once each way, with lists of its own: a face of n corners has n - 2 triangles, of three corners each. One
+// function a size: a small face does not clear the lists of a large one.
 fn paired_16(corners: &[u32], n: usize) -> bool
     requires { ⌜ CheckedCorners n (now corners) × (n ≤ 16) × (length (now corners) / 3 + 2 ≡ n) ⌝ }
     ensures { λ r. ⌜ (r ≡ true) ↔ Paired n (inThrees (old corners)) ⌝ }
 {
     let m = corners.len();
     let mut head = [0u16; 16];
-    let mut mark = [0u16; 16];
-    let mut next = [0u16; 42];
-    paired_in(&mut head[..n], &mut mark[..n], &mut next[..m], corners, n)
+    let mut stamp = [0u16; 16];
+    let mut next = [0u16; 3 * 14];
+    paired_in(&mut head[..n], &mut stamp[..n], &mut next[..m], corners, n)
 }
 
 fn paired_64(corners: &[u32], n: usize) -> bool
@@ -202,9 +211,9 @@ fn paired_64(corners: &[u32], n: usize) -> bool
 {
     let m = corners.len();
     let mut head = [0u16; 64];
-    let mut mark = [0u16; 64];
-    let mut next = [0u16; 186];
-    paired_in(&mut head[..n], &mut mark[..n], &mut next[..m], corners, n)
+    let mut stamp = [0u16; 64];
+    let mut next = [0u16; 3 * 62];
+    paired_in(&mut head[..n], &mut stamp[..n], &mut next[..m], corners, n)
 }
 
 fn paired_256(corners: &[u32], n: usize) -> bool
@@ -213,9 +222,9 @@ fn paired_256(corners: &[u32], n: usize) -> bool
 {
     let m = corners.len();
     let mut head = [0u16; places::limits::MOST_CHECKED_CORNERS];
-    let mut mark = [0u16; places::limits::MOST_CHECKED_CORNERS];
+    let mut stamp = [0u16; places::limits::MOST_CHECKED_CORNERS];
     let mut next = [0u16; 3 * places::limits::MOST_CHECKED_TRIANGLES];
-    paired_in(&mut head[..n], &mut mark[..n], &mut next[..m], corners, n)
+    paired_in(&mut head[..n], &mut stamp[..n], &mut next[..m], corners, n)
 }
 
 // Whether triangles, three corners each, are a cut of a face of n corners.

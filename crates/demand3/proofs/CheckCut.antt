@@ -2,35 +2,33 @@
 -- whatever is a cut has the sides of the face, a side and its back taken off, and so the face's doubled area vector.
 use mathlib.Core.Path.{_≡_, refl, sym, _∙_, ap}
 use mathlib.Core.Logic.{_↔_}
-use mathlib.Core.Bool.{Bool, true, false, cond}
-use mathlib.Core.List.{List, [], _∷_, _++_, map}
-use Prim.Native.Nat.{ℕ, _+_, _-_, _<_, _≤_}
+use mathlib.Core.Bool.{true}
+use mathlib.Core.List.{List, [], _∷_, map}
+use Prim.Native.Nat.{ℕ, _-_, _<_, _≤_}
 use native.Mathlib.Omega.{arith}
-use lib.Dec.{eqb}
-use lib.ListN.{length, getD, take, drop}
-use lib.Seq.{take-at}
+use lib.ListN.{length, getD, take}
 use Rattle.places.specs.Lists.{Each}
 use Rattle.places.specs.Ring.{walk, placesBelow}
 use Rattle.places.specs.Stored.{inThrees, joined}
-use Rattle.places.proofs.Rings.{length-places, place-at}
+use Rattle.places.proofs.Rings.{length-places, places-below}
 use Rattle.places.proofs.Stored.{each-joined, threes-joined, length-joined}
 use Rattle.exact.specs.Space.{V3, vectorSum, cross, area, areas}
 use Rattle.exact.proofs.Volume.{Three}
 use Rattle.flat.specs.Points.{Point, verticesOf, cornersOf}
-use Rattle.cut.specs.Cut.{cutByPlace, ringAt}
+use Rattle.cut.specs.Cut.{cutOf, cutByPlace, ringAt}
 use Rattle.cut.proofs.Facts.{cut-room, cut-threes, cut-each}
-use Rattle.cut.proofs.ByPlace.{places-ring, by-place-long, by-place-left}
+use Rattle.cut.proofs.ByPlace.{by-place, places-ring, by-place-long, by-place-left}
 use Rattle.cut_check.specs.CutCheck.{IsCut}
 use Rattle.cut_check.proofs.Accepted.{accepted-area}
-use Rattle.refusals.specs.Refusals.{trianglesRefusal}
 use Rattle.refusals.proofs.Refusals.{Checked, check-passes}
 use Rattle.geometry.specs.declared.Truth.{Truth}
 use Rattle.geometry.specs.declared.Count.{Count}
-use Rattle.geometry.specs.Cells.{faceNumbered, inFront, trianglePlacesAnswer}
+use Rattle.geometry.specs.Cells.{faceNumbered, trianglesAnswer, trianglePlacesAnswer}
 use Rattle.geometry.specs.CheckCut.{checkCutAnswer, YesForCuts}
-use Rattle.geometry.proofs.CheckCut.{yes-for-cuts}
+use Rattle.geometry.proofs.OneFace.{cut-written}
+use Rattle.geometry.proofs.CheckCut.{yes-for-cuts, same-count}
 use Rattle.demand3.specs.Demand3.{Full, placeOf}
-use Rattle.demand3.specs.CheckCut.{OwnCut, OwnEntry, AcceptedArea, AcceptedFace}
+use Rattle.demand3.specs.CheckCut.{SameTriangles, OwnCut, OwnEntry, AcceptedArea, AcceptedFace}
 use Rattle.demand3.proofs.Demand3.{full-left}
 use Rattle.demand3.proofs.OwnCut.{own-cut}
 
@@ -49,10 +47,7 @@ module _ (vs : List Point) (face : List ℕ) (low : 3 ≤ length face) (high : l
 
   our-places : Each [] (Each 0 (λ p. p < length face)) ours
   unfolding cutByPlace
-  our-places =
-      let many = length-places (length face) in
-      cut-each (cornersOf vs face) (placesBelow (length face))
-      (record { holds = λ k h. rw (place-at (length face) k (omega arith)) (omega arith) })
+  our-places = cut-each (cornersOf vs face) (placesBelow (length face)) (places-below (length face))
 
   our-room : length ours ≤ length face - 2
   unfolding cutByPlace
@@ -80,28 +75,34 @@ module _ (vs : List Point) (face : List ℕ) (low : 3 ≤ length face) (high : l
 pub own-cut-accepted : OwnCut
 own-cut-accepted vs face low high = accepted-is-full vs face low high
 
--- ---- the same of the two entries
--- what is written where a count is answered
-written-is : (b : Bool) (why : ℕ) (out ts after : List (List ℕ)) (m : ℕ)
-    → (Count.Is m, after) ≡ cond b (inFront out ts) (Count.Refused why, out) → (m ≡ length ts) × (after ≡ ts ++ drop (length ts) out)
-written-is true why out ts after m e =
-    let count : Count.Is m ≡ Count.Is (length ts) = ap (λ (x : Count × List (List ℕ)). x .0) e in
-    (cc, ap (λ (x : Count × List (List ℕ)). x .1) e)
-written-is false why out ts after m e =
-    let count : Count.Is m ≡ Count.Refused why = ap (λ (x : Count × List (List ℕ)). x .0) e in
-    absurd (let z : _≡_ {A = ℕ} 0 1 = cc in omega arith)
+-- ---- what the two entries write
+-- they answer alike, and the cut by place is the one cut
+pub same-triangles : SameTriangles
+unfolding trianglesAnswer trianglePlacesAnswer
+same-triangles coords corners ends k out numbers places r s e f = (alike, looked)
+  where
+    alike : r ≡ s
+    alike =
+        let count : Count × List (List ℕ) → Count = λ x. x .0 in
+        ap count e ∙ sym (same-count coords corners ends k out) ∙ sym (ap count f)
+
+    looked : (m : ℕ) → r ≡ Count.Is m → take m numbers ≡ map (ringAt (faceNumbered corners ends k)) (take m places)
+    looked m q =
+        let vs = verticesOf coords in
+        let face = faceNumbered corners ends k in
+        let one = cut-written (cutOf vs face) coords corners ends k out numbers m (rw q at e) in
+        let other = cut-written (cutByPlace vs face) coords corners ends k out places m (rw (← alike, q) at f) in
+        rw (one .1, other .1) (ap (λ c. c .triangles) (by-place vs face))
 
 pub own-entry : OwnEntry
 unfolding trianglePlacesAnswer
 own-entry coords corners ends k out after m e low high =
     let vs = verticesOf coords in
     let face = faceNumbered corners ends k in
-    let ts = cutByPlace vs face .triangles in
-    let w = written-is (eqb (trianglesRefusal coords corners ends k (length out)) 0) _ out ts after m e in
-    let front : take m after ≡ ts = rw (w .1) (take-at ts (drop (length ts) out) m (sym (w .0))) in
+    let w = cut-written (cutByPlace vs face) coords corners ends k out after m e in
     let full = accepted-is-full vs face low high in
     let many = by-place-long vs face in
-    rw front (λ y. omega (arith, w .0, full .0 y low), λ n. full .1 (λ _. omega (arith, w .0)))
+    rw (w .1) (λ y. omega (arith, w .0, full .0 y low), λ n. full .1 (λ _. omega (arith, w .0)))
 
 -- ---- what is accepted has the face's area
 pub accepted-has-area : AcceptedArea

@@ -11,10 +11,10 @@ use lib.ListN.{length, getD}
 use Rattle.places.specs.Lists.{Each, without}
 use Rattle.places.specs.Ring.{sides, nextOf, prevOf, before, after, placesBelow, earOf}
 use Rattle.places.proofs.Lists.{length-without, each-nil, each-cons, each-without}
-use Rattle.places.proofs.Rings.{prev-below, next-below, each-ear, length-places}
+use Rattle.places.proofs.Rings.{prev-below, next-below, next-apart, next-next, next-thrice, next-prev, each-ear, length-places}
 use Rattle.exact.specs.Sides.{count, runs}
 use Rattle.exact.specs.Facing.{Single}
-use Rattle.exact.proofs.Reversed.{runs-none, runs-cons}
+use Rattle.exact.proofs.Reversed.{runs-cons, runs-one}
 use Rattle.exact.proofs.Conditions.{single-cons}
 use Rattle.exact.proofs.Balance.{sum-append, bit-self}
 use Rattle.exact.proofs.Ears.{cut-one}
@@ -24,9 +24,7 @@ use Rattle.cut.specs.Cut.{cutOf}
 use Rattle.cut.proofs.Facts.{Ends, few, full, short, choice, cut-all, cut-ends}
 use Rattle.cut_check.specs.CutCheck.{Different, IsCut}
 use Rattle.cut_check.specs.Steps.{runsBeside}
-use Rattle.places.proofs.Rings.{next-apart, next-next, next-thrice, next-prev}
-use Rattle.exact.proofs.RingSides.{SideOf, side-of, no-side, no-start, no-end}
-use Rattle.exact.proofs.RingSides.{one-place, once-round, not-back}
+use Rattle.exact.proofs.RingSides.{SideOf, side-of, no-side, no-start, no-end, one-place, once-round, not-back}
 use Rattle.cut_check.proofs.FaceSides.{single-places, count-face}
 use Rattle.cut_check.proofs.Pairs.{OnceEachWay, even-cut}
 
@@ -53,10 +51,7 @@ different-three a b c p q s =
     let two = single-cons b (c ∷ []) .0 (each-cons (ne-eqb b c s) each-nil, last) in
     record { three = refl; single = single-cons a (b ∷ c ∷ []) .0 (each-cons (ne-eqb a b p) (each-cons (ne-eqb a c q) each-nil), two) }
 
-runs-one : (i j : ℕ) (f : List ℕ) → runs i j (f ∷ []) ≡ count i j (sides f)
-runs-one i j f = omega (arith, runs-cons i j f [], runs-none i j)
-
--- with the ring without its corner it runs each side as often as the ring, the runs back taken off
+-- the triangle and the ring without its corner run each side as often as the ring does, the runs back taken off
 ear-alike : (k : ℕ) (r : List ℕ) → k < length r → 2 ≤ length r → Alike (earOf k r ∷ without k r ∷ []) (r ∷ [])
 ear-alike k r l h = record {
   sums = λ w anti. rw (append-nil (sides (without k r)), append-nil (sides r), sum-append w (sides (earOf k r)) (sides (without k r)))
@@ -87,7 +82,7 @@ module _ (k : ℕ) (r : List ℕ) (s : Single r) (l : k < length r) (h : 4 ≤ l
   at-next : nextOf k (length r) < length r
   at-next = next-below k (length r) l
 
-  -- its places are different
+  -- the ring holds different numbers at different places
   places-differ : (p q : ℕ) → p < length r → q < length r → p ≢ q → getD r p 0 ≢ getD r q 0
   places-differ p q a b n e = n (one-place r s p q a b e)
 
@@ -110,12 +105,12 @@ module _ (k : ℕ) (r : List ℕ) (s : Single r) (l : k < length r) (h : 4 ≤ l
       let home = one-place r s (nextOf (t .k) n) (prevOf k n) (next-below (t .k) n (t .below)) at-prev (t .end) in
       next-thrice (prevOf k n) n at-prev h (rw (next-prev k n l, ← there) home))
 
-  -- the triangle has it,
+  -- the triangle that is cut off has the side from the corner after to the corner before
   across : 0 < count (after 0 k r) (before 0 k r) (sides (earOf k r))
   unfolding earOf
   across = omega (arith, bit-self (after 0 k r) (before 0 k r))
 
-  -- so that what is left of the ring has its back, and not it
+  -- what is left of the ring has the side from the corner before to the corner after once, and not its back
   new-side :
       let rest = sides (without k r) in
       (count (before 0 k r) (after 0 k r) rest ≡ 1) × (count (after 0 k r) (before 0 k r) rest ≡ 0)
@@ -130,16 +125,17 @@ module _ (k : ℕ) (r : List ℕ) (s : Single r) (l : k < length r) (h : 4 ≤ l
       (omega (arith, once-round (without k r) rest a c), not-back (without k r) rest three a c back)
 
 -- ---- the triangles of a ring of different places that is cut to its end
-record Good (r : List ℕ) (ts : List (List ℕ)) : Type 0 where
+record CutToEnd (r : List ℕ) (ts : List (List ℕ)) : Type 0 where
   different : Each [] Different ts
-  -- they have no place that the ring has not,
+  -- the triangles have no place that the ring has not
   absent : (v : ℕ) → Each 0 (λ x. x ≢ v) r → (j : ℕ) → (runs v j ts ≡ 0) × (runs j v ts ≡ 0)
-  -- run each side as often as the ring, the runs back taken off,
+  -- the triangles run each side as often as the ring does, the runs back taken off
   even : (i j : ℕ) → runs i j ts + count j i (sides r) ≡ runs j i ts + count i j (sides r)
-  -- and none twice
+  -- the triangles run no side twice in the same direction
   once : (i j : ℕ) → runs i j ts ≤ 1
 
-module _ (k : ℕ) (r : List ℕ) (ts : List (List ℕ)) (s : Single r) (l : k < length r) (h : 4 ≤ length r) (g : Good (without k r) ts) where
+module _ (k : ℕ) (r : List ℕ) (ts : List (List ℕ)) (s : Single r) (l : k < length r) (h : 4 ≤ length r)
+    (g : CutToEnd (without k r) ts) where
   -- a side of the triangle that is cut off is on none of the others: two of its sides are at the corner that is gone, and the third is run
   -- back by what is left of the ring, once
   on-ear : (i j : ℕ) → SideOf i j (earOf k r) → runs i j ts ≡ 0
@@ -162,8 +158,8 @@ module _ (k : ℕ) (r : List ℕ) (ts : List (List ℕ)) (s : Single r) (l : k <
       (λ o. omega (arith, on-ear i j (side-of i j (earOf k r) o), once-round (earOf k r) (ear-different k r s l h .single) i j))
       (λ o. omega (arith, g .once i j))
 
-  good-clip : Good r (earOf k r ∷ ts)
-  good-clip = record {
+  clip-to-end : CutToEnd r (earOf k r ∷ ts)
+  clip-to-end = record {
     different = each-cons (ear-different k r s l h) (g .different);
     absent = λ v e j.
         let ear = each-ear k r l e in
@@ -176,28 +172,28 @@ module _ (k : ℕ) (r : List ℕ) (ts : List (List ℕ)) (s : Single r) (l : k <
     once = λ i j. omega (arith, runs-cons i j (earOf k r) ts, once-more i j);
   }
 
-good-three : (r : List ℕ) → length r ≡ 3 → Single r → Good r (r ∷ [])
-good-three r h s = record {
+three-to-end : (r : List ℕ) → length r ≡ 3 → Single r → CutToEnd r (r ∷ [])
+three-to-end r h s = record {
   different = each-cons (record { three = h; single = s }) each-nil;
   absent = λ v e j. (runs-one v j r ∙ no-start v j r e, runs-one j v r ∙ no-end j v r e);
   even = λ i j. omega (arith, runs-one i j r, runs-one j i r);
   once = λ i j. omega (arith, runs-one i j r, once-round r s i j);
 }
 
-cut-good : (vs : List Point) (face : List ℕ) → 3 ≤ length face → Single face → cutOf vs face .left ≡ []
-    → Good face (cutOf vs face .triangles)
-cut-good vs face = cut-all vs face (λ r c. 3 ≤ length r → Single r → c .left ≡ [] → Good r (c .triangles)) (record {
+cut-to-end : (vs : List Point) (face : List ℕ) → 3 ≤ length face → Single face → cutOf vs face .left ≡ []
+    → CutToEnd face (cutOf vs face .triangles)
+cut-to-end vs face = cut-all vs face (λ r c. 3 ≤ length r → Single r → c .left ≡ [] → CutToEnd r (c .triangles)) (record {
   small = λ r l h s e. absurd (omega arith);
-  three = λ r l h s e. good-three r l s;
+  three = λ r l h s e. three-to-end r l s;
   stop = λ r l n h s e. absurd (omega (arith, ap length e));
   clip = λ k r c m l q h s e.
-      good-clip k r (c .triangles) s l m (q (omega (arith, length-without k r l)) (single-without k r s) e);
+      clip-to-end k r (c .triangles) s l m (q (omega (arith, length-without k r l)) (single-without k r s) e);
 })
 
 -- ---- a face that is cut to its end
-good-even : (n : ℕ) (ts : List (List ℕ)) → 3 ≤ n → Good (placesBelow n) ts → OnceEachWay n ts
+once-each-way : (n : ℕ) (ts : List (List ℕ)) → 3 ≤ n → CutToEnd (placesBelow n) ts → OnceEachWay n ts
 unfolding runsBeside
-good-even n ts h g = record {
+once-each-way n ts h g = record {
   back = λ i j. omega (arith, g .even i j, count-face n i j, count-face n j i);
   once = λ i j.
       let back = count-face n j i in
@@ -211,8 +207,8 @@ good-even n ts h g = record {
 pub own-cut : (vs : List Point) (n : ℕ) → 3 ≤ n → cutOf vs (placesBelow n) .left ≡ [] → IsCut n (cutOf vs (placesBelow n) .triangles)
 own-cut vs n h e =
     let many = length-places n in
-    let good = cut-good vs (placesBelow n) (omega arith) (single-places n) e in
-    even-cut n (cutOf vs (placesBelow n) .triangles) h (number (cut-ends vs (placesBelow n))) (good .different) (good-even n _ h good)
+    let whole = cut-to-end vs (placesBelow n) (omega arith) (single-places n) e in
+    even-cut n (cutOf vs (placesBelow n) .triangles) h (number (cut-ends vs (placesBelow n))) (whole .different) (once-each-way n _ h whole)
   where
     number : Ends (choice vs (placesBelow n)) (placesBelow n) (cutOf vs (placesBelow n))
         → length (cutOf vs (placesBelow n) .triangles) + 2 ≡ n

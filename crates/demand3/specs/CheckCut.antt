@@ -17,10 +17,18 @@ use Rattle.flat.specs.Points.{Point}
 use Rattle.cut.specs.Cut.{cutByPlace, ringAt}
 use Rattle.geometry.specs.declared.Truth.{Truth}
 use Rattle.geometry.specs.declared.Count.{Count}
-use Rattle.geometry.specs.Cells.{faceNumbered, trianglePlacesAnswer}
+use Rattle.geometry.specs.Cells.{faceNumbered, trianglesAnswer, trianglePlacesAnswer}
 use Rattle.geometry.specs.CheckCut.{checkCutAnswer}
 use Rattle.demand3.specs.Demand3.{Full}
 use Rattle.demand3.specs.Area.{areaOf, areasOf}
+
+-- 'Triangles are given by place, our own cut's included': `triangles` and `triangle_places` give as many, or refuse alike, and the places
+-- looked up in the face are the vertex numbers, triangle by triangle
+abbrev pub SameTriangles : Type 0
+SameTriangles =
+    (coords : List Float) (corners ends : List ℕ) (k : ℕ) (out numbers places : List (List ℕ)) (r s : Count)
+    → (r, numbers) ≡ trianglesAnswer coords corners ends k out → (s, places) ≡ trianglePlacesAnswer coords corners ends k out
+    → (r ≡ s) × ((m : ℕ) → r ≡ Count.Is m → take m numbers ≡ map (ringAt (faceNumbered corners ends k)) (take m places))
 
 -- 'Whatever our own cut gives for a fully cut face of 3 to 256 corners is accepted.' Of a face that is cut short it is not: there are too
 -- few triangles
@@ -39,7 +47,7 @@ OwnEntry =
     3 ≤ n → n ≤ mostCheckedCorners → (checkCutAnswer n (joined (take m after)) ≡ Truth.Is true) ↔ (m + 2 ≡ n)
 
 -- 'Whatever is accepted has, taken exactly, the face's own doubled area vector (the sum of a × b over its sides)', for any points of whole
--- numbers at the places: `at` says where a place is
+-- numbers at the places: `at` gives the point at each place
 abbrev pub AcceptedArea : Type 0
 AcceptedArea =
     (n : ℕ) (places : List ℕ) → checkCutAnswer n places ≡ Truth.Is true

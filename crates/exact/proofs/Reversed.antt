@@ -61,6 +61,13 @@ pub runs-cons : (i j : ℕ) (f : List ℕ) (fs : List (List ℕ)) → runs i j (
 unfolding runs
 runs-cons i j f fs = count-append i j (sides f) (allSides fs)
 
+pub runs-one : (i j : ℕ) (f : List ℕ) → runs i j (f ∷ []) ≡ count i j (sides f)
+runs-one i j f = omega (arith, runs-cons i j f [], runs-none i j)
+
+pub runs-last : (i j : ℕ) (fs : List (List ℕ)) (f : List ℕ) → runs i j (fs ++ f ∷ []) ≡ runs i j fs + count i j (sides f)
+runs-last i j [] f = omega (arith, runs-one i j f, runs-none i j)
+runs-last i j (g ∷ fs) f = omega (arith, runs-cons i j g (fs ++ f ∷ []), runs-cons i j g fs, runs-last i j fs f)
+
 -- a choice leaves how often a side without direction occurs
 pub occurs-by : (i j : ℕ) (c : ℕ → Bool) (fs : List (List ℕ)) → occurs i j (reversedBy c fs) ≡ occurs i j fs
 occurs-by i j c [] = refl

@@ -16,17 +16,19 @@ use Rattle.exact.specs.Sides.{fromTo, count}
 use Rattle.exact.specs.Facing.{Single}
 use Rattle.exact.proofs.Balance.{fromTo-eq, bit-self}
 
--- ---- a side that occurs in a list stands at a place of it
-record Standing (i j : ℕ) (l : List (ℕ × ℕ)) : Type 0 where
-  k : ℕ
-  below : k < length l
-  so : getD l k (0, 0) ≡ (i, j)
+-- ---- the sides of a list
+-- the side from i to j stands at place k of a list
+pub record PlaceOf (i j : ℕ) (l : List (ℕ × ℕ)) : Type 0 where
+  pub k : ℕ
+  pub below : k < length l
+  pub so : getD l k (0, 0) ≡ (i, j)
 
-place-of : (i j : ℕ) (l : List (ℕ × ℕ)) → 0 < count i j l → Standing i j l
+-- a side that occurs in a list stands at a place of it
+pub place-of : (i j : ℕ) (l : List (ℕ × ℕ)) → 0 < count i j l → PlaceOf i j l
 place-of i j [] h = absurd (omega arith)
 place-of i j (e ∷ l) h = go (place-of i j l) (fromTo i j e) refl
   where
-    go : (0 < count i j l → Standing i j l) → (b : Bool) → fromTo i j e ≡ b → Standing i j (e ∷ l)
+    go : (0 < count i j l → PlaceOf i j l) → (b : Bool) → fromTo i j e ≡ b → PlaceOf i j (e ∷ l)
     go ih true q =
         let start = fromTo-eq i j e q .0 in
         let end = fromTo-eq i j e q .1 in
@@ -35,7 +37,8 @@ place-of i j (e ∷ l) h = go (place-of i j l) (fromTo i j e) refl
         let p = ih (omega (arith, rw q at h)) in
         record { k = suc (p .k); below = omega (arith, p .below); so = p .so }
 
-of-place : (i j : ℕ) (l : List (ℕ × ℕ)) (k : ℕ) → k < length l → getD l k (0, 0) ≡ (i, j) → 0 < count i j l
+-- a side that stands at a place of a list occurs in it
+pub of-place : (i j : ℕ) (l : List (ℕ × ℕ)) (k : ℕ) → k < length l → getD l k (0, 0) ≡ (i, j) → 0 < count i j l
 of-place i j [] k h e = absurd (omega arith)
 of-place i j (x ∷ l) zero h e = rw e (omega (arith, bit-self i j))
 of-place i j (x ∷ l) (suc k) h e = omega (arith, of-place i j l k (omega arith) e)

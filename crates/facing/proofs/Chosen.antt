@@ -3,32 +3,21 @@
 use mathlib.Core.Path.{_≡_, sym, _∙_}
 use mathlib.Core.Bool.{Bool, true, false, not, true≢false}
 use mathlib.Core.List.{List}
-use Prim.Native.Nat.{ℕ, zero, suc, _*_, _≤_}
+use Prim.Native.Nat.{ℕ, _*_, _≤_}
 use native.Mathlib.Omega.{arith}
-use lib.ListN.{length, getD, take, replicate}
+use lib.ListN.{length}
 use borrow.Author.Tests.{not-true, not-false}
 use Rattle.exact.specs.Sides.{Closed}
 use Rattle.exact.specs.Facing.{reversedBy, unfit}
 use Rattle.exact.proofs.Conditions.{unfit-is, unclosable-is, closable}
 use Rattle.cell.specs.Faces.{facesOf}
 use Rattle.cell.specs.Refusals.{firstRow}
-use Rattle.side_table.specs.Table.{Blank}
 use Rattle.side_table.specs.Numbers.{Known, Numbered, entryOf}
 use Rattle.shared_sides.specs.Steps.{Mates}
 use Rattle.facing.specs.Refused.{reversalRefusal}
 use Rattle.facing.specs.Steps.{codeChoice, Ground, Whole, clashFaces, Chosen}
 use Rattle.facing.proofs.Going.{going-made, closes-if}
 use Rattle.facing.proofs.Rounds.{clash-closed, closed-clash}
-
--- ---- codes of which none is set: the first n of k zeros
-pub blank-part : (n k : ℕ) → Blank (take n (replicate k 0))
-blank-part n k = record { zero = go n k }
-  where
-    go : (n k j : ℕ) → getD (take n (replicate k 0)) j 0 ≤ 0
-    go zero k j = omega arith
-    go (suc n) zero j = omega arith
-    go (suc n) (suc k) zero = omega arith
-    go (suc n) (suc k) (suc j) = go n k j
 
 -- ---- what the pairing says of the conditions
 pub failed : (r b : Bool) → r ≡ not b → not r ≡ true → b ≡ true

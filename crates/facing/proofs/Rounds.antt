@@ -4,7 +4,7 @@ use mathlib.Core.Path.{_≡_, refl, sym, _∙_, ap}
 use mathlib.Core.Logic.{_≢_, _↔_}
 use mathlib.Core.Bool.{Bool, true, false, not, Bool·beq, false≢true, cond}
 use mathlib.Core.List.{List, [], _∷_}
-use Prim.Native.Nat.{ℕ, zero, suc, _+_, _<_, _≤_}
+use Prim.Native.Nat.{ℕ, _+_, _<_, _≤_}
 use native.Mathlib.Decide.{ℕ-discrete, decLt}
 use native.Mathlib.Omega.{arith}
 use lib.Dec.{eqb, ltb}
@@ -15,9 +15,9 @@ use Rattle.places.specs.Ring.{sides, nextOf}
 use Rattle.places.proofs.Lists.{each-slice}
 use Rattle.places.proofs.Rings.{length-sides, side-at, next-below}
 use Rattle.places.specs.Loops.{oneIf}
-use Rattle.exact.specs.Sides.{fromTo, count, runs, Closed}
+use Rattle.exact.specs.Sides.{count, runs, Closed}
 use Rattle.exact.specs.Facing.{faceBy, reversedBy, occurs, has, Share}
-use Rattle.exact.proofs.Balance.{fromTo-eq}
+use Rattle.exact.proofs.RingSides.{place-of, of-side}
 use Rattle.exact.proofs.Reversed.{sides-back, occurs-by, one-of, in-range, user}
 use Rattle.exact.proofs.Conditions.{none-each}
 use Rattle.cell.specs.Faces.{facesOf}
@@ -29,39 +29,14 @@ use Rattle.facing.specs.Steps.{clashFaces, Marked}
 use Rattle.facing.proofs.Neighbours.{up-forth, up-back, Moved, met-side}
 use Rattle.facing.proofs.Spread.{reached-below, spread-room, spread-on}
 
--- ---- a side that occurs has a place
-count-at : (l : List (ℕ × ℕ)) (q : ℕ) → q < length l → 0 < count (getD l q (0, 0) .0) (getD l q (0, 0) .1) l
-count-at [] q h = absurd (omega arith)
-count-at (e ∷ l) zero h = rw (eq-eqb (e .0) (e .0) refl, eq-eqb (e .1) (e .1) refl) (omega arith)
-count-at (e ∷ l) (suc q) h = omega (arith, count-at l q (omega arith))
-
-record PlaceOf (l : List (ℕ × ℕ)) (i j : ℕ) : Type 0 where
-  q : ℕ
-  within : q < length l
-  is : (getD l q (0, 0) .0 ≡ i) × (getD l q (0, 0) .1 ≡ j)
-
-place-of : (l : List (ℕ × ℕ)) (i j : ℕ) → 0 < count i j l → PlaceOf l i j
-place-of [] i j h = absurd (omega arith)
-place-of (e ∷ l) i j h = go (place-of l i j) (fromTo i j e) refl
-  where
-    go : (0 < count i j l → PlaceOf l i j) → (b : Bool) → fromTo i j e ≡ b → PlaceOf (e ∷ l) i j
-    go ih true s = record { q = 0; within = omega arith; is = fromTo-eq i j e s }
-    go ih false s =
-        let r = ih (omega (arith, rw s at h)) in
-        let w = r .within in
-        record { q = suc (r .q); within = omega arith; is = r .is }
-
 -- what holds of each side of a face, either way round, holds of one that it has
 either-way : (P : ℕ → ℕ → Type 0) (face : List ℕ)
     → ((q : ℕ) → q < length (sides face) → P (getD (sides face) q (0, 0) .0) (getD (sides face) q (0, 0) .1))
     → ((i j : ℕ) → P i j → P j i) → (i j : ℕ) → 0 < has i j face → P i j
 either-way P face all way-back i j h = go (decLt 0 (count i j (sides face)))
   where
-    there : (i j : ℕ) → PlaceOf (sides face) i j → P i j
-    there i j r = rw (r .is .0, r .is .1) at (all (r .q) (r .within))
-
     at : (i j : ℕ) → 0 < count i j (sides face) → P i j
-    at i j c = there i j (place-of (sides face) i j c)
+    at i j c = let r = place-of i j (sides face) c in rw (r .so) at (all (r .k) (r .below))
 
     go : Dec (0 < count i j (sides face)) → P i j
     go (yes c) = at i j c
@@ -124,7 +99,7 @@ module _ {number table corners ends : List ℕ} {k : ℕ} (ground : Ground numbe
         rw (o .to) (face-known f (o .below) .holds (nextOf q n) (next-below q n (o .within)))
 
     runs-here : 0 < count a b (sides (getD fs f []))
-    runs-here = rw here at (count-at (sides (getD fs f [])) q (rw (length-sides (getD fs f [])) (o .within)))
+    runs-here = of-side a b (getD fs f []) (record { k = q; below = o .within; start = sym (o .from); end = sym (o .to) })
 
     here-beside : a ≢ b → Beside fs a b (firstAt at table a b) (secondAt at table a b)
     here-beside ne = beside a b from-known to-known ne (omega (arith, runs-here, one-of a b fs f))

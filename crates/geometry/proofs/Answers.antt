@@ -15,11 +15,12 @@ use Rattle.geometry.specs.Points.{toLocalAnswer, localOriginAnswer}
 pub one-answer : OneAnswer
 one-answer A answer one other p q = p ∙ sym q
 
--- ---- what `local_origin` answers is what `to_local` answers, without the list
-first-answered : {A B : Type 0} (b : Bool) (x : A × B) (y : A) (z : B) → cond b x (y, z) .0 ≡ cond b (x .0) y
+-- ---- the answer of an entry that also writes into a list, without the list
+pub first-answered : {A B : Type 0} (b : Bool) (x : A × B) (y : A) (z : B) → cond b x (y, z) .0 ≡ cond b (x .0) y
 first-answered true x y z = refl
 first-answered false x y z = refl
 
+-- what `local_origin` answers is what `to_local` answers
 pub origin-alike : (coords : List Float) → localOriginAnswer coords ≡ toLocalAnswer coords .0
 unfolding localOriginAnswer toLocalAnswer
 origin-alike coords = sym (first-answered (eqb (localRefusal coords) 0) _ _ _)

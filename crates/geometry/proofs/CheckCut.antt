@@ -16,10 +16,9 @@ use Rattle.cut_check.specs.CutCheck.{IsCut, isCutOf}
 use Rattle.cut_check.proofs.Test.{cut-test}
 use Rattle.refusals.specs.Refusals.{trianglesRefusal, checkRefusal}
 use Rattle.geometry.specs.declared.Truth.{Truth}
-use Rattle.geometry.specs.declared.Count.{Count}
 use Rattle.geometry.specs.Cells.{faceNumbered, trianglesAnswer, trianglePlacesAnswer}
 use Rattle.geometry.specs.CheckCut.{checkCutAnswer, YesForCuts}
-use Rattle.geometry.proofs.Answers.{passed}
+use Rattle.geometry.proofs.Answers.{first-answered, passed}
 
 same-truth : (a b : Bool) → Truth.Is a ≡ Truth.Is b → a ≡ b
 same-truth a b e = cc
@@ -47,14 +46,10 @@ yes-for-cuts n places {r} e = (λ t. go (eqb (checkRefusal n places) 0) refl (sy
     back p = e ∙ rw (p .0, cut-test n (inThrees places) .1 (p .1))
 
 -- ---- the triangles by place are as many as those by vertex number
-same-told : {B : Type 0} (b : Bool) (m n : ℕ) (p q z : B) (r : Count) → m ≡ n
-    → cond {A = Count × B} b (Count.Is m, p) (r, z) .0 ≡ cond {A = Count × B} b (Count.Is n, q) (r, z) .0
-same-told true m n p q z r e = ap Count.Is e
-same-told false m n p q z r e = refl
-
 pub same-count : (coords : List Float) (corners ends : List ℕ) (k : ℕ) (out : List (List ℕ))
     → trianglePlacesAnswer coords corners ends k out .0 ≡ trianglesAnswer coords corners ends k out .0
 unfolding trianglePlacesAnswer trianglesAnswer
 same-count coords corners ends k out =
-    same-told (eqb (trianglesRefusal coords corners ends k (length out)) 0) _ _ _ _ out _
-    (sym (by-place-long (verticesOf coords) (faceNumbered corners ends k)))
+    let passes = eqb (trianglesRefusal coords corners ends k (length out)) 0 in
+    let many = by-place-long (verticesOf coords) (faceNumbered corners ends k) in
+    first-answered passes _ _ out ∙ rw (← many) (sym (first-answered passes _ _ out))

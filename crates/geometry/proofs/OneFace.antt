@@ -1,41 +1,72 @@
--- What an entry answers that cuts one face of a cell, by vertex number or by place: refused by the check of the cell, or for want of room,
--- or with the triangles of the cut at the front of the list.
-use mathlib.Core.Path.{_≡_, refl, sym, _∙_}
+-- An entry that cuts one face of a cell, by vertex number or by place, answers `cutAnswer`, since its two tests are the two refusals of the
+-- definition, in their order; and past both it may cut, since the face is then one of a sound cell and has room.
+use mathlib.Core.Path.{_≡_, refl, sym, _∙_, ap}
 use mathlib.Core.Logic.{_≢_}
 use mathlib.Core.Bool.{Bool, true, false, cond}
 use mathlib.Core.List.{List, []}
-use Prim.Native.Nat.{ℕ}
+use Prim.Native.Nat.{ℕ, _-_, _<_, _≤_}
 use native.Mathlib.Omega.{arith}
-use lib.ListN.{length, getD}
+use lib.Dec.{T, eqb}
+use lib.ListN.{length, getD, take, drop}
+use lib.Seq.{take-at}
 use lib.Ieee.{Float}
-use Rattle.cell.specs.Faces.{facesOf}
+use Rattle.flat.specs.Points.{verticesOf}
+use Rattle.flat.specs.Steps.{Inside}
+use Rattle.cell.specs.Faces.{facesOf, rises}
 use Rattle.cut.specs.Cut.{Cut}
 use Rattle.cut.specs.Steps.{Shown}
 use Rattle.cut.specs.declared.Counts.{Counts}
 use Rattle.refusals.specs.Refusals.{faceRefusal, roomRefused, trianglesRefusal}
-use Rattle.refusals.proofs.Refusals.{first-decides, room-decides}
+use Rattle.refusals.proofs.Refusals.{first-decides, room-decides, AskedFace, asked-face, fits}
 use Rattle.geometry.specs.declared.Count.{Count}
-use Rattle.geometry.specs.Answers.{answered}
-use Rattle.geometry.specs.Cells.{inFront}
+use Rattle.geometry.specs.Answers.{front}
+use Rattle.geometry.specs.Cells.{cutAnswer}
 use Rattle.geometry.proofs.Answers.{refused, passed}
 
-module _ (coords : List Float) (corners ends : List ℕ) (k : ℕ) (out : List (List ℕ)) (cut : Cut) {why : ℕ}
-    (found : why ≡ faceRefusal coords corners ends k) where
-  abbrev answer : Count × List (List ℕ)
-  answer =
-      answered (trianglesRefusal coords corners ends k (length out)) (inFront out (cut .triangles)) (λ why. (Count.Refused why, out))
+module _ (coords : List Float) (corners ends : List ℕ) (k : ℕ) {why : ℕ} (found : why ≡ faceRefusal coords corners ends k) where
+  known : why ≡ 0 → AskedFace coords corners ends k
+  known z = asked-face coords corners ends k (sym found ∙ z)
 
-  pub not-sound : why ≢ 0 → (Count.Refused why, out) ≡ answer
-  not-sound n = refused (first-decides coords corners ends k (length out) found n) (λ why. (Count.Refused why, out)) _ n
+  -- past the first test the face may be looked up
+  pub is-there : why ≡ 0 → T (rises 0 ends (length corners)) × (k < length ends)
+  is-there z = (known z .ordered, known z .there)
 
-  module _ (z : why ≡ 0) {face : List ℕ} (asked : face ≡ getD (facesOf corners ends) k []) where
-    -- what the whole check answers past the first, by what the room says
-    decides : (b : Bool) → b ≡ roomRefused face (length out) → cond b 6 0 ≡ trianglesRefusal coords corners ends k (length out)
-    decides b r = room-decides coords corners ends k (length out) b found z (rw (← asked) r)
+  -- past both tests it may be cut
+  pub may-cut : why ≡ 0 → {face : List ℕ} → face ≡ getD (facesOf corners ends) k [] → (room : ℕ) {b : Bool} → b ≡ roomRefused face room
+      → b ≡ false → Inside (verticesOf coords) face × ((length face ≤ 2048) × (length face - 2 ≤ room))
+  may-cut z {face} asked room r e = (rw asked (known z .inside), (rw asked (known z .few), fits face room (sym e ∙ r)))
 
-    pub no-room : {b : Bool} → b ≡ roomRefused face (length out) → b ≡ true → (Count.Refused 6, out) ≡ answer
-    no-room r e = refused (decides true (sym e ∙ r)) (λ why. (Count.Refused why, out)) _ (λ e. absurd (omega (arith, e)))
+  -- what is answered, by the two tests
+  module _ (cut : Cut) (out : List (List ℕ)) where
+    pub not-sound : why ≢ 0 → (Count.Refused why, out) ≡ cutAnswer cut coords corners ends k out
+    not-sound n = refused (first-decides coords corners ends k (length out) found n) (λ why. (Count.Refused why, out)) _ n
 
-    pub cut-made : {b : Bool} {r : Counts} {out′ : List (List ℕ)} → b ≡ roomRefused face (length out) → b ≡ false → Shown cut r out out′
-        → (Count.Is (r .triangles), out′) ≡ answer
-    cut-made room e shown = passed (decides false (sym e ∙ room)) _ refl (rw (shown .written, shown .count))
+    module _ (z : why ≡ 0) {face : List ℕ} (asked : face ≡ getD (facesOf corners ends) k []) {b : Bool}
+        (room : b ≡ roomRefused face (length out)) where
+      decides : cond b 6 0 ≡ trianglesRefusal coords corners ends k (length out)
+      decides = room-decides coords corners ends k (length out) b found z (rw (← asked) room)
+
+      pub no-room : b ≡ true → (Count.Refused 6, out) ≡ cutAnswer cut coords corners ends k out
+      no-room e = refused (rw e at decides) (λ why. (Count.Refused why, out)) _ (λ e. absurd (omega (arith, e)))
+
+      pub is-cut : {r : Counts} {out′ : List (List ℕ)} → b ≡ false → Shown cut r out out′
+          → (Count.Is (r .triangles), out′) ≡ cutAnswer cut coords corners ends k out
+      is-cut e shown = passed (rw e at decides) _ refl (rw (shown .written, shown .count))
+
+-- ---- where a count is answered it is that of the cut, and the triangles of the cut stand at the front of the list
+pub cut-written : (cut : Cut) (coords : List Float) (corners ends : List ℕ) (k : ℕ) (out after : List (List ℕ)) (m : ℕ)
+    → (Count.Is m, after) ≡ cutAnswer cut coords corners ends k out → (m ≡ length (cut .triangles)) × (take m after ≡ cut .triangles)
+cut-written cut coords corners ends k out after m =
+    let why = trianglesRefusal coords corners ends k (length out) in
+    go (cut .triangles) (eqb why 0) why
+  where
+    go : (ts : List (List ℕ)) (b : Bool) (why : ℕ)
+        → (Count.Is m, after) ≡ cond {A = Count × List (List ℕ)} b (Count.Is (length ts), front ts out) (Count.Refused why, out)
+        → (m ≡ length ts) × (take m after ≡ ts)
+    go ts true why e =
+        let count : Count.Is m ≡ Count.Is (length ts) = ap (λ (x : Count × List (List ℕ)). x .0) e in
+        let many : m ≡ length ts = cc in
+        (many, rw (ap (λ (x : Count × List (List ℕ)). x .1) e) (take-at ts (drop (length ts) out) m (sym many)))
+    go ts false why e =
+        let count : Count.Is m ≡ Count.Refused why = ap (λ (x : Count × List (List ℕ)). x .0) e in
+        absurd (let z : _≡_ {A = ℕ} 0 1 = cc in omega arith)

@@ -9,7 +9,7 @@ use Rattle.floats.specs.F64.{zero64}
 use Rattle.flat.specs.Points.{Point, verticesOf, cornersOf, centroidOf, boundsOf, scaleOf}
 use Rattle.exact.specs.Sides.{closedOf}
 use Rattle.cell.specs.Faces.{facesOf}
-use Rattle.cut.specs.Cut.{cutOf, cutByPlace}
+use Rattle.cut.specs.Cut.{Cut, cutOf, cutByPlace}
 use Rattle.volume.specs.Volume.{volumeOf, geometricCentroidOf}
 use Rattle.inside.specs.Inside.{containsOf, phedContainsOf}
 use Rattle.planes.specs.Planes.{planeOf}
@@ -116,18 +116,18 @@ planeOfFaceAnswer coords corners ends k =
     let plane = planeShown (planeOf (cornersOf (verticesOf coords) (faceNumbered corners ends k))) in
     answered (facesRefusal coords corners ends (k ∷ [])) (record { answer = PlaneAnswer.Is; plane = plane }) refusedPlane
 
--- triangles in a lent list: how many they are, and the list afterwards
-abbrev pub inFront : List (List ℕ) → List (List ℕ) → Count × List (List ℕ)
-inFront out ts = (Count.Is (length ts), front ts out)
+-- an entry that cuts the face k of a cell: how many triangles the cut has, and the list with them at its front; or the refusal
+abbrev pub cutAnswer : Cut → List Float → List ℕ → List ℕ → ℕ → List (List ℕ) → Count × List (List ℕ)
+cutAnswer cut coords corners ends k out =
+    let ts = cut .triangles in
+    answered (trianglesRefusal coords corners ends k (length out)) (Count.Is (length ts), front ts out) (λ why. (Count.Refused why, out))
 
 -- triangles: those of the face k, by vertex number
 unfoldable pub trianglesAnswer : List Float → List ℕ → List ℕ → ℕ → List (List ℕ) → Count × List (List ℕ)
 trianglesAnswer coords corners ends k out =
-    let cut = cutOf (verticesOf coords) (faceNumbered corners ends k) in
-    answered (trianglesRefusal coords corners ends k (length out)) (inFront out (cut .triangles)) (λ why. (Count.Refused why, out))
+    cutAnswer (cutOf (verticesOf coords) (faceNumbered corners ends k)) coords corners ends k out
 
 -- triangle_places: the same by place, each corner of a triangle by its place in the face
 unfoldable pub trianglePlacesAnswer : List Float → List ℕ → List ℕ → ℕ → List (List ℕ) → Count × List (List ℕ)
 trianglePlacesAnswer coords corners ends k out =
-    let cut = cutByPlace (verticesOf coords) (faceNumbered corners ends k) in
-    answered (trianglesRefusal coords corners ends k (length out)) (inFront out (cut .triangles)) (λ why. (Count.Refused why, out))
+    cutAnswer (cutByPlace (verticesOf coords) (faceNumbered corners ends k)) coords corners ends k out

@@ -6,3 +6,4 @@ pub mod Rings
 pub mod Stored
 pub mod Reversal
 pub mod Stretch
+pub mod Stamps

@@ -22,6 +22,11 @@ pub one-at-most : (b : Bool) → oneIf b ≤ 1
 one-at-most true = omega arith
 one-at-most false = omega arith
 
+-- and only a yes counts
+pub one-if : (b : Bool) → 0 < oneIf b → b ≡ true
+one-if true h = refl
+one-if false h = absurd (omega arith)
+
 -- a list from a place on
 pub drop-more : {A : Type 0} (l : List A) (i : ℕ) (d : A) → i < length l → drop i l ≡ getD l i d ∷ drop (i + 1) l
 drop-more l i d h = rw add-one (drop-cons l i d h)

@@ -1,5 +1,6 @@
--- The places beside a place of a ring are on the ring, and the side at a place runs from there to the next; the loops that go round a ring
--- need both.
+-- The places beside a place of a ring are on the ring, since the step from a place to the next adds one or goes home to 0; so one, two or
+-- three steps lead away from a place where the ring is longer than that, and a step back undoes one. At each place of `placesBelow` stands
+-- its own number, and the side at a place runs from there to the next.
 use mathlib.Core.Path.{_≡_, refl, _∙_, ap}
 use mathlib.Core.Logic.{_≢_}
 use mathlib.Core.Bool.{Bool, true, false, cond}
@@ -131,6 +132,10 @@ length-places n = length-from n 0
 pub place-at : (n k : ℕ) → k < n → getD (placesBelow n) k 0 ≡ k
 unfolding placesBelow
 place-at n k h = from-at n 0 k h ∙ omega arith
+
+-- all of them are below n
+pub places-below : (n : ℕ) → Each 0 (λ k. k < n) (placesBelow n)
+places-below n = record { holds = λ k h. let l : k < n = omega (arith, length-places n) in rw (place-at n k l) l }
 
 -- ---- sides
 module _ {A : Type 0} where

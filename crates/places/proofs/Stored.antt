@@ -8,7 +8,7 @@ use lib.ListN.{length, getD, set, take, drop, length-append}
 use Rattle.places.specs.Lists.{Each}
 use Rattle.places.specs.Stored.{inThrees, inPairs, joined}
 use Rattle.places.specs.Steps.{overThrees, overPairs}
-use Rattle.places.proofs.Lists.{each-head, each-tail, each-nil, each-append}
+use Rattle.places.proofs.Lists.{each-head, each-tail, each-nil, each-cons, each-append}
 
 module _ {A : Type 0} where
   pub length-threes : (l : List A) → length (inThrees l) ≡ length l / 3
@@ -199,6 +199,18 @@ module _ {A : Type 0} where
   unfolding joined
   each-joined [] e = each-nil
   each-joined (p ∷ ps) e = each-append p (joined ps) (each-head e) (each-joined ps (each-tail e))
+
+  -- and what holds of each number of a list holds of each number of its threes
+  pub each-threes : {P : A → Type 0} {d : A} (l : List A) → Each d P l → Each [] (Each d P) (inThrees l)
+  unfolding inThrees
+  each-threes [] e = each-nil
+  each-threes (a ∷ []) e = each-nil
+  each-threes (a ∷ b ∷ []) e = each-nil
+  each-threes (a ∷ b ∷ c ∷ l) e =
+      let after = each-tail e in
+      let rest = each-tail after in
+      each-cons (each-cons (each-head e) (each-cons (each-head after) (each-cons (each-head rest) each-nil)))
+      (each-threes l (each-tail rest))
 
   -- points of three numbers each, stored one after the other and read again, are the points
   pub threes-joined : (ps : List (List A)) → Each [] (λ p. length p ≡ 3) ps → inThrees (joined ps) ≡ ps

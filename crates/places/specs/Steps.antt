@@ -1,6 +1,6 @@
 -- What functions below the gatehouse ask of and promise each other; no contract of a public entry speaks of these.
 use Rattle.places.specs.Lists.{without}
-use Prim.Native.Nat.{ℕ, _-_}
+use Prim.Native.Nat.{ℕ, _-_, _<_, _≤_}
 use mathlib.Core.List.{List, [], _∷_, _++_}
 use lib.ListN.{length, getD, set, drop}
 
@@ -24,3 +24,11 @@ unfoldable pub overPairs : {A : Type 0} → List A → List A
 overPairs [] = []
 overPairs (a ∷ []) = a ∷ []
 overPairs (a ∷ b ∷ l) = overPairs l
+
+-- a list of marks, counts, codes or stamps before anything is entered: each entry is 0
+pub record Blank (t : List ℕ) : Type 0 where
+  pub zero : (k : ℕ) → getD t k 0 ≤ 0
+
+-- no stamp in the list is `own` yet, the one to come: each is below it
+pub record Fresh (own : ℕ) (stamp : List ℕ) : Type 0 where
+  pub below : (x : ℕ) → getD stamp x 0 < own

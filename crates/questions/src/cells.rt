@@ -1,4 +1,4 @@
-// The entries on a cell that are lent lists for numbers and for counts.
+// The entries that are lent lists for numbers and for counts: those on a cell, and the check of triangles over a face's places.
 use crate::unknown;
 use question_lists::words::argument;
 use question_lists::words::capped;

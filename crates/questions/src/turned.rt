@@ -75,9 +75,7 @@ fn face_cut(
     ends: &[u32],
     out: &mut [[u32; 3]],
     counts: &mut [usize],
-) -> u8
-    requires { ⌜ length (now out) ≤ 256 ⌝ }
-{
+) -> u8 {
     let face = low(word(q, 1));
     match word(q, 0) {
         91 => abi::cells::wegrusamt_triangle_places(coords, corners, ends, face, out, counts),

@@ -33,7 +33,7 @@ use Rattle.planes.proofs.Stored.{length-fours}
 use Rattle.refusals.specs.Refusals.{firstRefusal, listRefusal, localRefusal, pairsRefused, planeRefusal, faceRefusal, facesRefusal}
 use Rattle.refusals.specs.Refusals.{roomRefused, trianglesRefusal, strays, phedRefusal, queriesRefused, surveyRefusal, planesRefused}
 use Rattle.refusals.specs.Refusals.{workRefused, worksRefusal, clipRefusal, planarRefusal, overlapRefusal}
-use Rattle.refusals.specs.Refusals.{checkedRefused, checkRefusal}
+use Rattle.refusals.specs.Refusals.{checkSizeRefused, checkRefusal}
 use Rattle.refusals.specs.Steps.{partsRefused}
 
 -- ---- the first of two refusals
@@ -161,12 +161,12 @@ module _ (coords : List Float) (corners ends : List ℕ) (queries : List Float) 
   few-queries = omega (arith, few-query-points, length-threes queries)
 
 -- ---- triangles that are checked
--- past the two tests of n the size is that of a list in threes
-pub checked-by-parts : (n : ℕ) (places : List ℕ) → 3 ≤ n → n ≤ 256 → partsRefused (length places) 3 254 ≡ checkedRefused n places
-unfolding partsRefused checkedRefused
-checked-by-parts n places h g = rw (le-ltb n 3 h, le-ltb 256 n g, length-threes places)
+-- for n from 3 to 256 the size is refused as that of a list in threes
+pub check-size-by-parts : (n : ℕ) (places : List ℕ) → 3 ≤ n → n ≤ 256 → partsRefused (length places) 3 254 ≡ checkSizeRefused n places
+unfolding partsRefused checkSizeRefused
+check-size-by-parts n places h g = rw (le-ltb n 3 h, le-ltb 256 n g, length-threes places)
 
--- what is known of triangles that are not refused
+-- what is known of triangles over a face's places that are not refused
 pub record Checked (n : ℕ) (places : List ℕ) : Type 0 where
   pub low : 3 ≤ n
   pub high : n ≤ 256
@@ -175,9 +175,9 @@ pub record Checked (n : ℕ) (places : List ℕ) : Type 0 where
   pub below : Each 0 (λ p. p < n) places
 
 pub check-known : (n : ℕ) (places : List ℕ) → checkRefusal n places ≡ 0 → Checked n places
-unfolding checkRefusal checkedRefused
+unfolding checkRefusal checkSizeRefused
 check-known n places e =
-    let one = row-zero 1 _ (checkedRefused n places) (omega arith) e in
+    let one = row-zero 1 _ (checkSizeRefused n places) (omega arith) e in
     let four = row-zero 4 [] (indexRefused n places) (omega arith) (one .1) in
     let size = or-none (ltb n 3 || ltb 256 n) (not (eqb (length places % 3) 0) || ltb 254 (length (inThrees places))) (one .0) in
     let corners = or-none (ltb n 3) (ltb 256 n) (size .0) in
@@ -190,9 +190,9 @@ check-known n places e =
       below = all-below n places (four .0);
     }
 
--- and where that is known nothing is refused
+-- triangles over a face's places are not refused where all that `Checked` says holds of them
 pub check-passes : (n : ℕ) (places : List ℕ) → Checked n places → checkRefusal n places ≡ 0
-unfolding checkRefusal checkedRefused indexRefused firstRow
+unfolding checkRefusal checkSizeRefused indexRefused firstRow
 check-passes n places k =
     let parts : length (inThrees places) ≤ 254 = omega (arith, k .few, length-threes places) in
     let below = none-each (notBelow n) 0 places .1 (record { holds = λ i h. lt-leb n _ (k .below .holds i h) }) in

@@ -73,14 +73,14 @@ trianglesRefusal coords corners ends k room =
     firstRefusal (faceRefusal coords corners ends k) (firstRow ((6, roomRefused (getD (facesOf corners ends) k []) room) ∷ []))
 
 -- 1 size, of triangles over the places of a face of n corners: n under 3 or over 256, places not in threes, or over 254 triangles
-unfoldable pub checkedRefused : ℕ → List ℕ → Bool
-checkedRefused n places =
+unfoldable pub checkSizeRefused : ℕ → List ℕ → Bool
+checkSizeRefused n places =
     (ltb n 3 || ltb mostCheckedCorners n)
     || (not (eqb (length places % 3) 0) || ltb mostCheckedTriangles (length (inThrees places)))
 
 -- check_cut: 1 size, 4 index, a place that is not below n
 unfoldable pub checkRefusal : ℕ → List ℕ → ℕ
-checkRefusal n places = firstRow ((1, checkedRefused n places) ∷ (4, indexRefused n places) ∷ [])
+checkRefusal n places = firstRow ((1, checkSizeRefused n places) ∷ (4, indexRefused n places) ∷ [])
 
 -- 4 index, in a list with marks: an entry that is not the mark and not below n
 abbrev pub strays : ℕ → ℕ → Bool

@@ -4,7 +4,7 @@ ghost use Prim.Native.Nat.{_-_, _<_};
 ghost use Rattle.places.specs.Lent.{old};
 ghost use Rattle.places.specs.Loops.{anyOf};
 ghost use Rattle.refusals.specs.Refusals.{listRefusal, localRefusal, pairsRefused, planeRefusal, cellRefusal, containsRefusal};
-ghost use Rattle.refusals.specs.Refusals.{facesRefusal, checkedRefused, checkRefusal};
+ghost use Rattle.refusals.specs.Refusals.{facesRefusal, checkSizeRefused, checkRefusal};
 ghost use Rattle.refusals.specs.Refusals.{faceRefusal, roomRefused, turnFacesRefusal, strays, phedRefusal, queriesRefused};
 ghost use Rattle.refusals.specs.Refusals.{surveyRefusal};
 ghost use Rattle.refusals.specs.Refusals.{planesRefused, workRefused, worksRefusal, clipRefusal, planarRefusal, overlapRefusal};
@@ -154,9 +154,9 @@ pub fn room_refused(face: &[u32], room: usize) -> bool
     if n < 2 { false } else { room < n - 2 }
 }
 
-// A face of under 3 or over 256 corners, or places not in threes, or over 254 triangles.
-fn checked_refused(n: u32, places: &[u32]) -> bool
-    ensures { λ r. ⌜ r ≡ checkedRefused n (old places) ⌝ }
+// A face of under 3 or over 256 corners; or triangles' corners, each a place of the face, not in threes, or over 254 triangles.
+fn check_size_refused(n: u32, corners: &[u32]) -> bool
+    ensures { λ r. ⌜ r ≡ checkSizeRefused n (old corners) ⌝ }
 {
     if n < 3 {
         return true;
@@ -164,18 +164,18 @@ fn checked_refused(n: u32, places: &[u32]) -> bool
     if n as usize > places::limits::MOST_CHECKED_CORNERS {
         return true;
     }
-    parts_refused(places.len(), 3, places::limits::MOST_CHECKED_TRIANGLES)
+    parts_refused(corners.len(), 3, places::limits::MOST_CHECKED_TRIANGLES)
 }
 
-// Why triangles over the places of a face of n corners are not checked.
+// Why triangles over the places of a face of n corners are not checked; `corners` are the triangles' corners, each by its place.
 // Ruled out: a place equal to n let through; 4 for a list that is not in threes.
-pub fn check_refusal(n: u32, places: &[u32]) -> u8
-    ensures { λ r. ⌜ r ≡ checkRefusal n (old places) ⌝ }
+pub fn check_refusal(n: u32, corners: &[u32]) -> u8
+    ensures { λ r. ⌜ r ≡ checkRefusal n (old corners) ⌝ }
 {
-    if checked_refused(n, places) {
+    if check_size_refused(n, corners) {
         return 1;
     }
-    if cell::index_refused(n as usize, places) {
+    if cell::index_refused(n as usize, corners) {
         return 4;
     }
     0

@@ -12,11 +12,11 @@ use borrow.Author.Tests.{eq-eqb, ne-eqb, lt-ltb, le-ltb, eqb-false}
 use Rattle.places.specs.Loops.{anyOf}
 use Rattle.places.specs.Lists.{Each}
 use Rattle.places.specs.Ring.{sides}
+use Rattle.places.specs.Steps.{Blank}
 use Rattle.places.proofs.Lists.{each-head, each-tail}
 use Rattle.exact.specs.Sides.{allSides}
 use Rattle.exact.specs.Facing.{occurs, strange, doubled, unfit}
 use Rattle.exact.proofs.Conditions.{strange-is}
-use Rattle.side_table.specs.Table.{Blank}
 use Rattle.side_table.specs.Numbers.{Known, Numbering}
 use Rattle.side_table.proofs.Pairs.{Both, all-both}
 use Rattle.cell.specs.Faces.{facesOf}

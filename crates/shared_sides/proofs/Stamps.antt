@@ -10,10 +10,10 @@ use lib.ListN.{length, getD, set, drop, drop-of-length-le}
 use lib.Seq.{getD-set-same, getD-set-other}
 use borrow.Author.Tests.{eq-eqb, ne-eqb}
 use Rattle.places.specs.Loops.{anyOf}
+use Rattle.places.specs.Steps.{Fresh}
 use Rattle.places.proofs.Loops.{drop-more}
+use Rattle.places.proofs.Stamps.{fresh-more, fresh-set}
 use Rattle.exact.specs.Facing.{doubled}
-use Rattle.side_table.specs.Table.{Blank}
-use Rattle.shared_sides.specs.Steps.{Fresh}
 
 -- whether x has the stamp
 abbrev pub stamped : List ℕ → ℕ → ℕ → Bool
@@ -50,19 +50,6 @@ pub record Stamping (stamp : List ℕ) (own : ℕ) (face : List ℕ) (whole : Bo
   pub fresh : Fresh (own + 1) stamp
   pub so : (anyOf (stamped stamp own) (drop i face) || doubled (drop i face)) ≡ whole
 
-pub fresh-more : {own : ℕ} {stamp : List ℕ} → Fresh own stamp → Fresh (own + 1) stamp
-fresh-more f = record { below = λ x. omega (arith, f .below x) }
-
-fresh-one : (own : ℕ) {stamp : List ℕ} (x : ℕ) → x < length stamp → Fresh (own + 1) stamp → Fresh (own + 1) (set stamp x own)
-fresh-one own {stamp} x h f = record { below = λ y. go y (ℕ-discrete x y) }
-  where
-    go : (y : ℕ) → Dec (x ≡ y) → getD (set stamp x own) y 0 < own + 1
-    go y (yes p) = rw (← p, getD-set-same stamp x own 0 h) (omega arith)
-    go y (no p) = rw (getD-set-other stamp x y own 0 (λ e. p (sym e))) (f .below y)
-
-pub fresh-none : {stamp : List ℕ} → Blank stamp → Fresh 1 stamp
-fresh-none z = record { below = λ x. omega (arith, z .zero x) }
-
 pub stamp-start : {stamp : List ℕ} {own : ℕ} (face : List ℕ) → Fresh own stamp → Stamping stamp own face (doubled face) 0
 stamp-start {stamp} {own} face f = record {
   within = zero-le;
@@ -80,7 +67,7 @@ module _ {stamp : List ℕ} {own : ℕ} {face : List ℕ} {whole : Bool} {i : �
     unfolding anyOf doubled
     stamp-no b n = record {
       within = omega arith;
-      fresh = fresh-one own x b (s .fresh);
+      fresh = fresh-set own x (omega arith) (s .fresh);
       so =
           rw (any-either (stamped (set stamp x own) own) (eqb x) (stamped stamp own) (drop (i + 1) face) (λ y. stamped-one stamp own x y b))
           (assoc (anyOf (stamped stamp own) (drop (i + 1) face)) (anyOf (eqb x) (drop (i + 1) face)) (doubled (drop (i + 1) face))

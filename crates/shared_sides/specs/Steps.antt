@@ -93,10 +93,6 @@ lonelyFace at t face = anyOf (lonely at t) (sides face)
 unfoldable pub lonelyFaces : (ℕ → ℕ → ℕ) → List ℕ → List (List ℕ) → Bool
 lonelyFaces at t fs = anyOf (lonelyFace at t) fs
 
--- ---- stamps: each is below that of the face to come
-pub record Fresh (own : ℕ) (stamp : List ℕ) : Type 0 where
-  pub below : (x : ℕ) → getD stamp x 0 < own
-
 -- ---- what the full table tells
 -- x and y are the two marks at the side between i and j: which faces have it, and which way they run it, reversed or not
 pub record Pair (fs : List (List ℕ)) (i j x y : ℕ) : Type 0 where

@@ -12,12 +12,12 @@ ghost use Rattle.places.specs.Limits.{mostVertices, mostFaces};
 ghost use Rattle.places.specs.Loops.{anyOf};
 ghost use Rattle.places.specs.Lists.{Each};
 ghost use Rattle.places.specs.Ring.{sides};
+ghost use Rattle.places.specs.Steps.{Blank, Fresh};
 ghost use Rattle.exact.specs.Facing.{doubled, unfit};
 ghost use Rattle.cell.specs.Faces.{facesOf, rises};
-ghost use Rattle.side_table.specs.Table.{Blank};
 ghost use Rattle.side_table.specs.Numbers.{Known, Numbered, entryOf};
 ghost use Rattle.shared_sides.specs.Steps.{markOf, faceOf, downOf, markAt, marksIn, marksFrom, Left, Ready, firstAt, secondAt};
-ghost use Rattle.shared_sides.specs.Steps.{lonely, lonelyFace, lonelyFaces, Mates, Fresh};
+ghost use Rattle.shared_sides.specs.Steps.{lonely, lonelyFace, lonelyFaces, Mates};
 
 // The mark of the face f at a side that it runs up, from the lower vertex to the higher, or down.
 fn mark(f: usize, down: bool) -> u16

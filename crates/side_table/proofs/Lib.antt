@@ -2,4 +2,3 @@ pub mod Corners
 pub mod Mentioned
 pub mod Numbers
 pub mod Pairs
-pub mod Zeros

@@ -9,7 +9,7 @@ use Rattle.cut.specs.Cut.{cutByPlace}
 use Rattle.cut.proofs.Computed as Cut
 use Rattle.cut_check.specs.CutCheck.{faceSide, notDifferent, ownWay, eachWay, isCutOf}
 use Rattle.cell.specs.Refusals.{firstRow, indexRefused}
-use Rattle.refusals.specs.Refusals.{checkedRefused, checkRefusal}
+use Rattle.refusals.specs.Refusals.{checkSizeRefused, checkRefusal}
 use Rattle.geometry.specs.CheckCut.{checkCutAnswer}
 use Rattle.worked.specs.CheckCut.{Claim}
 
@@ -19,7 +19,7 @@ unfolding anyOf nextOf placesBelow inThrees joined runs doubled faceSide notDiff
 checked = tt
 
 unfoldable computed : Unit {0}
-unfolding Cut.computed checked checkedRefused checkRefusal checkCutAnswer cutByPlace
+unfolding Cut.computed checked checkSizeRefused checkRefusal checkCutAnswer cutByPlace
 computed = tt
 
 pub worked-check-cut : Claim

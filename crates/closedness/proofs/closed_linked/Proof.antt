@@ -1,6 +1,6 @@
 -- `closedness::closed_linked` meets its contract: the chains hold the sides of all faces, and even chains are closed faces.
+use Rattle.places.proofs.Stamps.{zeros}
 use Rattle.side_table.proofs.Corners.{each-below}
-use Rattle.side_table.proofs.Zeros.{zeros}
 use Rattle.closedness.proofs.Linked.{links-start, lists-start, links-end}
 use Rattle.closedness.proofs.Evened.{even-closed}
 use borrow.Author.Needs.{needs}

@@ -36,7 +36,7 @@ tally-chain-requires c κs =
     let record { before = _; loop = loop } : tie.At-loop Inv-loop μ-loop = search in
     let start : tie.Start Inv-loop μ-loop = search in
     let links = start .pre .0 .0 in
-    let within : read .result ≤ length (start .args .next .now) = omega (arith, links .first (loop .m), read .ensures .0) in (
+    let within : read .result ≤ length (start .args .next .now) = omega (arith, links .first (loop .m), read .ensures) in (
       (links .backward, within, links .few),
       (level-room (loop .inv .2) (omega arith) (omega (arith, links .few)), loop .inv .2 .no-gap),
     )
@@ -46,7 +46,7 @@ returns c l t =
     let record { before = _; tally-chain = tally-chain } : tie.After-tally-chain Inv-loop μ-loop = search in
     let record { before = _; read = read } : tie.After-read Inv-loop μ-loop = search in
     let record { before = _; loop = loop } : tie.At-loop Inv-loop μ-loop = search in
-    let tallied = tally-chain .ensures .1 _ (chain-at t (omega arith) (read .ensures .0)) in
+    let tallied = tally-chain .ensures .1 _ (chain-at t (omega arith) (read .ensures)) in
     even-no (uneven-at (loop .m) l (loop .inv .2 .no-gap) tallied (omega arith))
 
 loop-again : tie.Need-loop-again Inv-loop μ-loop
@@ -56,13 +56,13 @@ loop-again c =
     let record { before = _; loop = loop } : tie.At-loop Inv-loop μ-loop = search in
     let start : tie.Start Inv-loop μ-loop = search in
     let links = start .pre .0 .0 in
-    let few : read .result ≤ 2048 = omega (arith, links .first (loop .m), links .few, read .ensures .0) in
+    let few : read .result ≤ 2048 = omega (arith, links .first (loop .m), links .few, read .ensures) in
     let level = level-more (loop .inv .2) few (tally-chain .ensures .0 .1) (omega arith) in (
       omega arith,
       omega arith,
       level,
       λ l t.
-          even-more (loop .m) l (loop .inv .2 .no-gap) (tally-chain .ensures .1 _ (chain-at t (omega arith) (read .ensures .0)))
+          even-more (loop .m) l (loop .inv .2 .no-gap) (tally-chain .ensures .1 _ (chain-at t (omega arith) (read .ensures)))
           (level .no-gap) (loop .inv .3 l t),
     )
 

@@ -39,7 +39,7 @@ code-below : (c : tie.After-read Inv-loop μ-loop) → c .read .result < 512
 code-below c =
     let record { before = _; loop = loop } : tie.At-loop Inv-loop μ-loop = search in
     let start : tie.Start Inv-loop μ-loop = search in
-    omega (arith, start .pre .0 .0 .codes (loop .h - 1), c .read .ensures .0)
+    omega (arith, start .pre .0 .0 .codes (loop .h - 1), c .read .ensures)
 
 raise-requires : tie.Need-raise-requires Inv-loop μ-loop
 raise-requires c κs =
@@ -69,14 +69,14 @@ loop-again c =
     let record { before = _; loop-test = loop-test } : tie.In-loop Inv-loop μ-loop = search in
     let record { before = _; loop = loop } : tie.At-loop Inv-loop μ-loop = search in
     let start : tie.Start Inv-loop μ-loop = search in
-    let less : read2 .result < loop .h = omega (arith, start .pre .0 .0 .back (loop .h - 1), read2 .ensures .0) in (
+    let less : read2 .result < loop .h = omega (arith, start .pre .0 .0 .back (loop .h - 1), read2 .ensures) in (
       omega arith,
       raise .ensures .1,
       omega (arith, raise .ensures .2),
       rising-more (loop .inv .3) (code-below at-read) less (raise .ensures .0),
       λ cs k.
-          rest-more (loop .inv .4 cs k) (loop-test .taken) (loop .inv .3 .size) (code-below at-read) (at-read .read .ensures .0)
-          (read2 .ensures .0) (raise .ensures .0),
+          rest-more (loop .inv .4 cs k) (loop-test .taken) (loop .inv .3 .size) (code-below at-read) (at-read .read .ensures)
+          (read2 .ensures) (raise .ensures .0),
     )
 
 returns : tie.Need-returns Inv-loop μ-loop

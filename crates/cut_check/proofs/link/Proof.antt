@@ -61,7 +61,7 @@ loop-again c =
       omega arith,
       rw length-set (inv .2),
       rw length-set (inv .3),
-      backward-more (corner .result) (inv .4) (inv .5) (omega arith),
+      backward-more (corner .result) (inv .4) (inv .5),
       lists-more (corner .result) (inv .4) (inv .5) (omega arith) (corner .ensures .0) (known (c .before)),
     )
 

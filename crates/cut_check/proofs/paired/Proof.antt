@@ -1,29 +1,31 @@
--- `cut_check::paired` meets its contract: after a turns the places before a are paired, and no mark is above a, so that the stamp of the
--- next place is new; and the first place that is not paired is the answer no.
+-- `cut_check::paired` meets its contract: after a turns the places before a are paired and every stamp is below a + 1, so that the one
+-- of the place a is new; and the first place that is not paired is the answer no.
 use mathlib.Core.Path.{_≡_}
-use Prim.Native.Nat.{_-_, _≤_}
+use Prim.Native.Nat.{_+_, _-_, _≤_}
 use native.Mathlib.Omega.{arith}
 use lib.ListN.{length}
 use borrow.Author.Tests.{not-true, not-false}
+use Rattle.places.specs.Steps.{Fresh}
 use Rattle.places.specs.Stored.{inThrees}
-use Rattle.cut_check.specs.Steps.{Marks}
-use Rattle.cut_check.proofs.Places.{PairedBelow, below-none, below-more, below-all, not-paired}
+use Rattle.places.proofs.Stamps.{fresh-none}
+use Rattle.cut_check.specs.Steps.{PairedBelow}
+use Rattle.cut_check.proofs.Pairing.{below-none, below-more, below-all, not-paired}
 use borrow.Author.Needs.{needs}
 use Rattle.cut_check.proofs.paired.Statement.{statement}
 use Rattle.cut_check.proofs.paired.Tie as tie
 
 abbrev Inv-loop : tie.InvT-loop
-Inv-loop mark₀ head next corners n a₀ mark a =
-    (a ≤ n) × (length mark ≡ n) × Marks a mark × PairedBelow n (inThrees corners) a
+Inv-loop stamp₀ head next corners n a₀ stamp a =
+    (a ≤ n) × (length stamp ≡ n) × Fresh (a + 1) stamp × PairedBelow n (inThrees corners) a
 
 abbrev μ-loop : tie.MeasureT-loop
-μ-loop mark₀ head next corners n a₀ mark a = n - a
+μ-loop stamp₀ head next corners n a₀ stamp a = n - a
 
 loop-holds : tie.Need-loop-holds Inv-loop μ-loop
 loop-holds c =
     let start : tie.Start Inv-loop μ-loop = search in
-    let marks = start .pre .1 .1 in
-    (omega arith, marks .0, marks .1, below-none)
+    let blank = start .pre .1 .1 in
+    (omega arith, blank .0, fresh-none (blank .1), below-none)
 
 paired-at-requires : tie.Need-paired-at-requires Inv-loop μ-loop
 paired-at-requires c κs =
@@ -32,7 +34,7 @@ paired-at-requires c κs =
     let start : tie.Start Inv-loop μ-loop = search in
     let pre = start .pre in (
       (pre .0 .0, pre .0 .1, pre .0 .2, omega arith),
-      (rw (read .ensures .0) (pre .1 .0 .1 .chain (loop .a)), (loop .inv .1, loop .inv .2)),
+      (rw (read .ensures) (pre .1 .0 .1 .chain (loop .a)), (loop .inv .1, loop .inv .2)),
     )
 
 one-is-not : tie.Need-returns Inv-loop μ-loop

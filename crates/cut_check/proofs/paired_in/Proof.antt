@@ -1,5 +1,5 @@
--- `cut_check::paired_in` meets its contract: once they are linked, the chain of each place has all its corners, which is what `paired`
--- asks.
+-- `cut_check::paired_in` meets its contract: once the corners are linked, the chain of each place has all that are there, which is what
+-- `paired` asks.
 use native.Mathlib.Omega.{arith}
 use borrow.Author.Needs.{needs}
 use Rattle.cut_check.proofs.paired_in.Statement.{statement}
@@ -10,8 +10,8 @@ link-requires c κs =
     let start : tie.Start = search in
     let pre = start .pre in
     let sizes = pre .1 .0 in
-    let zeros = pre .1 .1 in
-    ((rw (sizes .0) (pre .0 .0), sizes .2), (zeros .0, zeros .2))
+    let blank = pre .1 .1 in
+    ((rw (sizes .0) (pre .0 .0), sizes .2), (blank .0, blank .2))
 
 paired-requires : tie.Need-paired-requires
 paired-requires c κs =

@@ -1,6 +1,6 @@
 -- `facing::choose_128` meets its contract: 16384 zeros are a table with room for 128 rows of 128.
 use native.Mathlib.Nat.{mul-le-mul}
-use Rattle.side_table.proofs.Zeros.{zeros}
+use Rattle.places.proofs.Stamps.{zeros}
 use borrow.Author.Needs.{needs}
 use Rattle.facing.proofs.choose_128.Statement.{statement}
 use Rattle.facing.proofs.choose_128.Tie as tie

@@ -1,6 +1,6 @@
 -- `facing::choose_16` meets its contract: 256 zeros are a table with room for 16 rows of 16.
 use native.Mathlib.Nat.{mul-le-mul}
-use Rattle.side_table.proofs.Zeros.{zeros}
+use Rattle.places.proofs.Stamps.{zeros}
 use borrow.Author.Needs.{needs}
 use Rattle.facing.proofs.choose_16.Statement.{statement}
 use Rattle.facing.proofs.choose_16.Tie as tie

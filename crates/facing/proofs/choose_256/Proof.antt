@@ -1,6 +1,6 @@
 -- `facing::choose_256` meets its contract: 65536 zeros are a table with room for 256 rows of 256.
 use native.Mathlib.Nat.{mul-le-mul}
-use Rattle.side_table.proofs.Zeros.{zeros}
+use Rattle.places.proofs.Stamps.{zeros}
 use borrow.Author.Needs.{needs}
 use Rattle.facing.proofs.choose_256.Statement.{statement}
 use Rattle.facing.proofs.choose_256.Tie as tie

@@ -1,6 +1,6 @@
 -- `facing::choose_32` meets its contract: 1024 zeros are a table with room for 32 rows of 32.
 use native.Mathlib.Nat.{mul-le-mul}
-use Rattle.side_table.proofs.Zeros.{zeros}
+use Rattle.places.proofs.Stamps.{zeros}
 use borrow.Author.Needs.{needs}
 use Rattle.facing.proofs.choose_32.Statement.{statement}
 use Rattle.facing.proofs.choose_32.Tie as tie

@@ -1,6 +1,6 @@
 -- `facing::choose_64` meets its contract: 4096 zeros are a table with room for 64 rows of 64.
 use native.Mathlib.Nat.{mul-le-mul}
-use Rattle.side_table.proofs.Zeros.{zeros}
+use Rattle.places.proofs.Stamps.{zeros}
 use borrow.Author.Needs.{needs}
 use Rattle.facing.proofs.choose_64.Statement.{statement}
 use Rattle.facing.proofs.choose_64.Tie as tie

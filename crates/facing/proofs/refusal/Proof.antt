@@ -2,7 +2,7 @@
 use lib.ListN.{length}
 use mathlib.Core.Path.{sym}
 use Rattle.places.proofs.Lists.{first-of}
-use Rattle.facing.proofs.Chosen.{blank-part}
+use Rattle.places.proofs.Stamps.{blank-part}
 use borrow.Author.Needs.{needs}
 use Rattle.facing.proofs.refusal.Statement.{statement}
 use Rattle.facing.proofs.refusal.Tie as tie

@@ -7,9 +7,9 @@ use native.Mathlib.Omega.{arith}
 use lib.ListN.{length}
 use Rattle.places.proofs.Lists.{first-of}
 use Rattle.places.proofs.Stored.{length-threes}
+use Rattle.places.proofs.Stamps.{blank-part}
 use Rattle.cell.specs.Steps.{Sound}
 use Rattle.cell.proofs.Refusals.{sound}
-use Rattle.facing.proofs.Chosen.{blank-part}
 use Rattle.geometry.proofs.TurnFaces.{turn-faces-refused, turn-faces-none, turn-faces-done}
 use borrow.Author.Needs.{needs}
 use Rattle.geometry.proofs.turn_faces.Statement.{statement}

@@ -1,5 +1,5 @@
 -- `shared_sides::any_doubled` meets its contract: the stamps that it lends are 256 zeros.
-use Rattle.side_table.proofs.Zeros.{zeros}
+use Rattle.places.proofs.Stamps.{zeros}
 use borrow.Author.Needs.{needs}
 use Rattle.shared_sides.proofs.any_doubled.Statement.{statement}
 use Rattle.shared_sides.proofs.any_doubled.Tie as tie

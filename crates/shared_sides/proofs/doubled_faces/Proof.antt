@@ -5,13 +5,13 @@ use borrow.Author.Needs.{needs}
 use Prim.Native.Nat.{_+_, _-_}
 use lib.ListN.{length}
 use mathlib.Core.Path.{_≡_, refl}
+use Rattle.places.specs.Steps.{Fresh}
+use Rattle.places.proofs.Stamps.{fresh-none}
 use Rattle.cell.specs.Faces.{facesOf}
 use Rattle.cell.proofs.Faces.{FaceAsking, faces-start, faces-step, faces-yes, faces-no, faces-end}
 use Rattle.places.specs.Loops.{anyOf}
 use Rattle.exact.specs.Facing.{doubled}
-use Rattle.shared_sides.specs.Steps.{Fresh}
 use Rattle.side_table.proofs.Corners.{each-face}
-use Rattle.shared_sides.proofs.Stamps.{fresh-none}
 use Rattle.shared_sides.proofs.doubled_faces.Statement.{statement}
 use Rattle.shared_sides.proofs.doubled_faces.Tie as tie
 

@@ -5,7 +5,7 @@ use native.Mathlib.Omega.{arith}
 use mathlib.Core.List.{[]}
 use Rattle.geometry.specs.Cells.{trianglePlacesAnswer}
 use Rattle.geometry.proofs.CheckCut.{same-count}
-use Rattle.abi.proofs.Told.{triangles-short, triangles-long}
+use Rattle.abi.proofs.Told.{count-short, count-long}
 use borrow.Author.Needs.{needs}
 use Rattle.abi.proofs.cells.wegrusamt_triangle_places.Statement.{statement}
 use Rattle.abi.proofs.cells.wegrusamt_triangle_places.Tie as tie
@@ -17,7 +17,7 @@ no-place c =
     let at : tie.Then1 = search in
     let answer = trianglePlacesAnswer (args .coords .now) (args .corners .now) (args .ends .now) (args .face) in
     let same = same-count (args .coords .now) (args .corners .now) (args .ends .now) (args .face) [] in
-    triangles-short answer (args .out .now) (args .count .now) (at .if1 .taken) (rw (← same) at (c .uncounted .ensures))
+    count-short answer (args .out .now) (args .count .now) (at .if1 .taken) (rw (← same) at (c .uncounted .ensures))
 
 is-told : tie.Need-returns-2
 is-told c =
@@ -27,7 +27,7 @@ is-told c =
     let made : tie.After-triangle-places = search in
     let put : tie.After-put-count = search in
     let answer = trianglePlacesAnswer (args .coords .now) (args .corners .now) (args .ends .now) (args .face) in
-    triangles-long answer (args .out .now) (args .count .now) (omega (arith, at .if1 .left)) (made .triangle-places .ensures)
+    count-long answer (args .out .now) (args .count .now) (omega (arith, at .if1 .left)) (made .triangle-places .ensures)
     (put .put-count .ensures)
 
 pub wegrusamt-triangle-places-spec : {M : Type 1} → statement M

@@ -2,7 +2,7 @@
 -- triangles and the count is put beside them.
 use native.Mathlib.Omega.{arith}
 use Rattle.geometry.specs.Cells.{trianglesAnswer}
-use Rattle.abi.proofs.Told.{triangles-short, triangles-long}
+use Rattle.abi.proofs.Told.{count-short, count-long}
 use borrow.Author.Needs.{needs}
 use Rattle.abi.proofs.cells.wegrusamt_triangles.Statement.{statement}
 use Rattle.abi.proofs.cells.wegrusamt_triangles.Tie as tie
@@ -13,7 +13,7 @@ no-place c =
     let args = start .args in
     let at : tie.Then1 = search in
     let answer = trianglesAnswer (args .coords .now) (args .corners .now) (args .ends .now) (args .face) in
-    triangles-short answer (args .out .now) (args .count .now) (at .if1 .taken) (c .uncounted .ensures)
+    count-short answer (args .out .now) (args .count .now) (at .if1 .taken) (c .uncounted .ensures)
 
 is-told : tie.Need-returns-2
 is-told c =
@@ -23,7 +23,7 @@ is-told c =
     let made : tie.After-triangles = search in
     let put : tie.After-put-count = search in
     let answer = trianglesAnswer (args .coords .now) (args .corners .now) (args .ends .now) (args .face) in
-    triangles-long answer (args .out .now) (args .count .now) (omega (arith, at .if1 .left)) (made .triangles .ensures)
+    count-long answer (args .out .now) (args .count .now) (omega (arith, at .if1 .left)) (made .triangles .ensures)
     (put .put-count .ensures)
 
 pub wegrusamt-triangles-spec : {M : Type 1} → statement M

@@ -1,4 +1,4 @@
--- `cut::by_place::fill_corners` meets its contract: the face's corners laid down at the places from i on make the list that of all of them.
+-- `cut::by_place::fill_corners` meets its contract: the corners laid down before i, with those from i on, make the points of all corners.
 use mathlib.Core.Path.{_≡_, refl, _∙_}
 use Prim.Native.Nat.{_-_}
 use native.Mathlib.Omega.{arith}

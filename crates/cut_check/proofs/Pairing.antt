@@ -1,9 +1,9 @@
 -- The sides at one place, for `paired_at`, and at all, for `paired`: those that leave the place a go to the places after the corners at a,
 -- and the face's backward side to the place before a; those that come to it, from the places before these corners and from the place after
--- a. So the marks tell whether the place is paired.
+-- a. So the stamps tell whether the place is paired.
 use mathlib.Core.Path.{_≡_, refl, sym, _∙_}
 use mathlib.Core.Logic.{_↔_, _≢_, Iff·trans, by-cases}
-use mathlib.Core.Bool.{Bool, true, false, _&&_, cond}
+use mathlib.Core.Bool.{Bool, true, false, false≢true, _&&_, cond}
 use mathlib.Core.List.{List, [], _∷_, _++_, map}
 use Prim.Native.Nat.{ℕ, zero, suc, _+_, _<_, _≤_}
 use native.Mathlib.Decide.{ℕ-discrete}
@@ -13,17 +13,19 @@ use lib.ListN.{length, getD, set}
 use borrow.Author.Tests.{eqb-true, ltb-true, eq-eqb, ne-eqb, lt-ltb}
 use Rattle.places.specs.Lists.{Each}
 use Rattle.places.specs.Ring.{nextOf, prevOf}
+use Rattle.places.specs.Steps.{Fresh}
 use Rattle.places.specs.Stored.{inThrees}
 use Rattle.places.proofs.Lists.{each-nil, each-cons, each-append}
 use Rattle.places.proofs.Rings.{next-below, prev-below, next-prev, prev-next}
+use Rattle.places.proofs.Stamps.{fresh-more}
 use Rattle.cut_check.specs.CutCheck.{faceSide}
-use Rattle.cut_check.specs.Steps.{runsBeside, Paired, PairedAt, placeAfter, placeBefore, cornersAt, times}
-use Rattle.cut_check.specs.Steps.{CheckedCorners, Marks, marked, taken, Took}
-use Rattle.cut_check.proofs.Corners.{after-below, before-below, times-last, runs-after, runs-before}
-use Rattle.cut_check.proofs.Marks.{length-marked, marked-last, marks-above, marks-marked, stamped, taken-last, taken-is}
+use Rattle.cut_check.specs.Steps.{runsBeside, PairedAt, PairedBelow, Paired, placeAfter, placeBefore, cornersAt, times}
+use Rattle.cut_check.specs.Steps.{CheckedCorners, setAll, taken, Took}
+use Rattle.cut_check.proofs.Corners.{after-place, before-place, times-last, runs-after, runs-before}
+use Rattle.cut_check.proofs.Stamps.{length-all, all-last, fresh-all, stamped-where, taken-last, taken-is}
 
 -- ---- the face's sides at a place
--- that to the place a comes from the place before it, and that from it goes to the place after it
+-- the side that comes to the place a comes from the place before it, and the one that leaves it goes to the place after it
 face-to : (n j a : ℕ) → a < n → faceSide n j a ≡ eqb (prevOf a n) j
 unfolding faceSide
 face-to n j a h = by-cases (ℕ-discrete (prevOf a n) j) one (λ e. other e (ltb j n) refl (eqb (nextOf j n) a) refl)
@@ -61,7 +63,7 @@ goesTo n c a = leaving c a ++ prevOf a n ∷ []
 abbrev comesFrom : ℕ → List ℕ → ℕ → List ℕ
 comesFrom n c a = coming c a ++ nextOf a n ∷ []
 
--- what holds of each of the first s corners
+-- what f gives of each of the first s corners has P, so what it gives of those at the place a has
 each-corner : {P : ℕ → Type 0} (f : ℕ → ℕ) (a : ℕ) (c : List ℕ) (s : ℕ) → ((p : ℕ) → p < s → P (f p)) → Each 0 P (map f (cornersAt a c s))
 unfolding cornersAt
 each-corner f a c zero h = each-nil
@@ -71,29 +73,29 @@ each-corner {P} f a c (suc s) h = go (eqb (getD c s 0) a) (each-corner f a c s (
     go true e = each-cons (h s (omega arith)) e
     go false e = e
 
--- once the marks are taken off, as r says: the mark of the place p decides, and no mark is above the stamp
-pub record Decided (n : ℕ) (c : List ℕ) (a p : ℕ) (mark : List ℕ) (r : Bool) : Type 0 where
-  pub answer : ((r && eqb (getD mark p 0) (a + 1)) ≡ true) ↔ PairedAt n (inThrees c) a
-  pub marks : r ≡ true → Marks (a + 1) mark
+-- once the stamps are taken off, as r says: what stands at the place p decides, and the stamp of the place after a is still to come
+pub record Decided (n : ℕ) (c : List ℕ) (a p : ℕ) (stamp : List ℕ) (r : Bool) : Type 0 where
+  pub answer : ((r && eqb (getD stamp p 0) (a + 1)) ≡ true) ↔ PairedAt n (inThrees c) a
+  pub fresh : r ≡ true → Fresh (a + 1 + 1) stamp
 
-module _ {n : ℕ} {c : List ℕ} {a p : ℕ} {mark : List ℕ} {r : Bool} (d : Decided n c a p mark r) where
+module _ {n : ℕ} {c : List ℕ} {a p : ℕ} {stamp : List ℕ} {r : Bool} (d : Decided n c a p stamp r) where
   pub decided-no : r ≡ false → (false ≡ true) ↔ PairedAt n (inThrees c) a
   decided-no e = rw e at (d .answer)
 
-  pub decided-last : r ≡ true → (eqb (getD mark p 0) (a + 1) ≡ true) ↔ PairedAt n (inThrees c) a
+  pub decided-last : r ≡ true → (eqb (getD stamp p 0) (a + 1) ≡ true) ↔ PairedAt n (inThrees c) a
   decided-last e = rw e at (d .answer)
 
 module _ {n : ℕ} {c : List ℕ} (k : CheckedCorners n c) {a : ℕ} (h : a < n) where
   goes-below : Each 0 (λ b. b < n) (goesTo n c a)
   goes-below =
       each-append (leaving c a) (prevOf a n ∷ [])
-      (each-corner (placeAfter c) a c (length c) (λ p g. k .below .holds _ (after-below p (length c) g (k .threes))))
+      (each-corner (placeAfter c) a c (length c) (λ p g. after-place p k g refl))
       (each-cons (prev-below a n h) each-nil)
 
   comes-below : Each 0 (λ b. b < n) (comesFrom n c a)
   comes-below =
       each-append (coming c a) (nextOf a n ∷ [])
-      (each-corner (placeBefore c) a c (length c) (λ p g. k .below .holds _ (before-below p (length c) g (k .threes))))
+      (each-corner (placeBefore c) a c (length c) (λ p g. before-place p k g refl))
       (each-cons (next-below a n h) each-nil)
 
   times-goes : (j : ℕ) → times j (goesTo n c a) ≡ runsBeside n (inThrees c) a j
@@ -106,52 +108,47 @@ module _ {n : ℕ} {c : List ℕ} (k : CheckedCorners n c) {a : ℕ} (h : a < n)
   times-comes j =
       rw (face-from n a j h, runs-before c a j (k .threes)) (times-last j (coming c a) (nextOf a n))
 
-  -- all marks that were written can be taken off exactly where the place is paired
-  taken-paired : {mark : List ℕ} → length mark ≡ n → Marks a mark
-      → (taken (a + 1) (goesTo n c a) (marked (a + 1) (comesFrom n c a) mark) ≡ true) ↔ PairedAt n (inThrees c) a
-  taken-paired {mark} e m =
+  -- all stamps that were written can be taken off exactly where the place is paired
+  taken-paired : {stamp : List ℕ} → length stamp ≡ n → Fresh (a + 1) stamp
+      → (taken (a + 1) (goesTo n c a) (setAll (a + 1) (comesFrom n c a) stamp) ≡ true) ↔ PairedAt n (inThrees c) a
+  taken-paired {stamp} e m =
       Iff·trans
-      (taken-is (a + 1) (goesTo n c a) (marked (a + 1) (comesFrom n c a) mark) (omega arith)
-      (rw (length-marked (a + 1) (comesFrom n c a) mark, e) goes-below)) (
+      (taken-is (a + 1) (goesTo n c a) (setAll (a + 1) (comesFrom n c a) stamp) (omega arith)
+      (rw (length-all (a + 1) (comesFrom n c a) stamp, e) goes-below)) (
         λ t. record { pairs = λ j. rw (same j, times-goes j, times-comes j) at (t j) },
         λ p j. rw (same j, times-goes j, times-comes j) (p .pairs j),
       )
     where
-      same : (j : ℕ) → eqb (getD (marked (a + 1) (comesFrom n c a) mark) j 0) (a + 1) ≡ ltb 0 (times j (comesFrom n c a))
-      same j = stamped (a + 1) a (comesFrom n c a) mark j (rw e comes-below) m (omega arith)
+      same : (j : ℕ) → eqb (getD (setAll (a + 1) (comesFrom n c a) stamp) j 0) (a + 1) ≡ ltb 0 (times j (comesFrom n c a))
+      same j = stamped-where (a + 1) (comesFrom n c a) stamp j (rw e comes-below) m
 
-  -- the marks are written, then taken off; the last that is asked for is that of the place before a
-  module _ {mark mark′ mark″ : List ℕ} {q : ℕ} {r : Bool} (e : length mark ≡ n) (m : Marks a mark)
-      (w : mark′ ≡ marked (a + 1) (coming c a) mark) (f : q ≡ nextOf a n)
-      (t : Took (a + 1) (leaving c a) (set mark′ q (a + 1)) mark″ r) where
-    all-marked : set mark′ q (a + 1) ≡ marked (a + 1) (comesFrom n c a) mark
-    all-marked = rw (w, f) (sym (marked-last (a + 1) (coming c a) (nextOf a n) mark))
+  -- the stamps are written, then taken off; the last that is asked for is that of the place before a
+  module _ {stamp stamp′ stamp″ : List ℕ} {q : ℕ} {r : Bool} (e : length stamp ≡ n) (m : Fresh (a + 1) stamp)
+      (w : stamp′ ≡ setAll (a + 1) (coming c a) stamp) (f : q ≡ nextOf a n)
+      (t : Took (a + 1) (leaving c a) (set stamp′ q (a + 1)) stamp″ r) where
+    all-written : set stamp′ q (a + 1) ≡ setAll (a + 1) (comesFrom n c a) stamp
+    all-written = rw (w, f) (sym (all-last (a + 1) (coming c a) (nextOf a n) stamp))
 
-    pub decide : {p : ℕ} → p ≡ prevOf a n → Decided n c a p mark″ r
+    pub decide : {p : ℕ} → p ≡ prevOf a n → Decided n c a p stamp″ r
     decide {p} g = record {
-      answer = rw (whole r (t .answer) (t .off)) (rw (← all-marked) at (taken-paired e m));
-      marks = λ z.
-          rw (t .off z, all-marked)
-          (marks-marked 0 (leaving c a) (omega arith)
-          (marks-marked (a + 1) (comesFrom n c a) (omega arith) (marks-above (omega arith) m)));
+      answer = rw (whole r (t .answer) (t .off)) (rw (← all-written) at (taken-paired e m));
+      fresh = λ z.
+          rw (t .off z, all-written)
+          (fresh-all 0 (leaving c a) (omega arith) (fresh-all (a + 1) (comesFrom n c a) (omega arith) (fresh-more m)));
     }
       where
-        last : taken (a + 1) (goesTo n c a) (set mark′ q (a + 1))
-            ≡ (taken (a + 1) (leaving c a) (set mark′ q (a + 1))
-            && eqb (getD (marked 0 (leaving c a) (set mark′ q (a + 1))) (prevOf a n) 0) (a + 1))
-        last = taken-last (a + 1) (leaving c a) (prevOf a n) (set mark′ q (a + 1))
+        last : taken (a + 1) (goesTo n c a) (set stamp′ q (a + 1))
+            ≡ (taken (a + 1) (leaving c a) (set stamp′ q (a + 1))
+            && eqb (getD (setAll 0 (leaving c a) (set stamp′ q (a + 1))) (prevOf a n) 0) (a + 1))
+        last = taken-last (a + 1) (leaving c a) (prevOf a n) (set stamp′ q (a + 1))
 
-        whole : (b : Bool) → b ≡ taken (a + 1) (leaving c a) (set mark′ q (a + 1))
-            → (b ≡ true → mark″ ≡ marked 0 (leaving c a) (set mark′ q (a + 1)))
-            → (b && eqb (getD mark″ p 0) (a + 1)) ≡ taken (a + 1) (goesTo n c a) (set mark′ q (a + 1))
+        whole : (b : Bool) → b ≡ taken (a + 1) (leaving c a) (set stamp′ q (a + 1))
+            → (b ≡ true → stamp″ ≡ setAll 0 (leaving c a) (set stamp′ q (a + 1)))
+            → (b && eqb (getD stamp″ p 0) (a + 1)) ≡ taken (a + 1) (goesTo n c a) (set stamp′ q (a + 1))
         whole true x y = sym (last ∙ rw (← x, ← y refl, g))
         whole false x y = sym (last ∙ rw (← x))
 
 -- ---- all places
--- those before a are paired
-pub record PairedBelow (n : ℕ) (ts : List (List ℕ)) (a : ℕ) : Type 0 where
-  pub paired : (i : ℕ) → i < a → PairedAt n ts i
-
 module _ {n : ℕ} {ts : List (List ℕ)} where
   pub below-none : PairedBelow n ts 0
   below-none = record { paired = λ i h. absurd (omega arith) }
@@ -160,11 +157,8 @@ module _ {n : ℕ} {ts : List (List ℕ)} where
   below-more {a} b p = record { paired = λ i h. by-cases (ℕ-discrete i a) (λ e. rw e p) (λ e. b .paired i (omega arith)) }
 
   pub below-all : {a : ℕ} → PairedBelow n ts a → n ≤ a → (true ≡ true) ↔ Paired n ts
-  below-all b h = (λ e. record { pairs = λ i j g. b .paired i (omega arith) .pairs j }, λ p. refl)
+  below-all b h = (λ e. record { paired = λ i g. b .paired i (omega arith) }, λ p. refl)
 
-  -- one that is not paired
+  -- a place that is not paired
   pub not-paired : {a : ℕ} {r : Bool} → a < n → (r ≡ true) ↔ PairedAt n ts a → r ≡ false → (false ≡ true) ↔ Paired n ts
-  not-paired {a} h i e = (
-    λ z. absurd (let z : _≡_ {A = ℕ} 0 1 = cc in omega arith),
-    λ p. sym e ∙ i .1 (record { pairs = λ j. p .pairs a j h }),
-  )
+  not-paired {a} h i e = (λ z. absurd (false≢true z), λ p. sym e ∙ i .1 (p .paired a h))

@@ -4,8 +4,9 @@
 //! after their last one, to cargo's output folder. The added lines only open a way in: a child
 //! module sees the private items of its parent, so `reach` can offer them to the outside.
 //!
-//! Two builds are written. `plain` is the text as it is. `ruled` has its calls of `hypot` replaced
-//! by the rule of SCOPE 1.
+//! Three builds are written. `plain` is the text as it is. `ruled` has its calls of `hypot` replaced
+//! by the rule of SCOPE 1. `counted` is the plain text in which each test of turn × direction, as a
+//! face is cut, passes through a counter.
 
 use std::path::{Path, PathBuf};
 use std::{env, fs};
@@ -43,6 +44,23 @@ const RULED_CALL: &str = ".ruled_hypot(";
 /// How many calls of `hypot` SCOPE 1 speaks of.
 const HYPOT_CALLS: usize = 2;
 
+/// The function that cuts a face, in which the tests are counted.
+const CUTTING: &str = "ear_clip_ring";
+
+/// What is tested at a corner, the turn there times the direction of the face.
+const TESTED: &str = "cross2(a, b, c) * orient";
+
+/// What stands behind it in the first pass over a ring and in the second, and the function of the
+/// counter through which it passes there.
+const TESTS: [(&str, &str); 2] = [(" < 0.0", "in_first_pass"), (" >= 0.0", "in_second_pass")];
+
+/// The counter.
+const TESTS_USES: &str = "use crate::turn_tests;\n";
+
+/// The files with what the line protocol offers of a build.
+const ENTRIES: &str = "src/entries.rs";
+const COUNTED_ENTRIES: &str = "src/counted_entries.rs";
+
 /// The text of every file of one build.
 struct Texts {
     convexity: String,
@@ -58,13 +76,16 @@ fn main() {
 }
 
 fn bring_in() -> Result<(), String> {
-    let own_folder = PathBuf::from(variable("CARGO_MANIFEST_DIR")?);
-    let out_folder = PathBuf::from(variable("OUT_DIR")?);
-    let source = source_folder(&own_folder);
+    let own = PathBuf::from(variable("CARGO_MANIFEST_DIR")?);
+    let out = PathBuf::from(variable("OUT_DIR")?);
+    let source = source_folder(&own);
 
     let plain = read_texts(&source)?;
-    write_build("plain", &plain, &own_folder, &out_folder)?;
-    write_build("ruled", &ruled(&plain)?, &own_folder, &out_folder)
+    let ruled = ruled(&plain)?;
+    let counted = counted(&plain)?;
+    write_build("plain", &plain, ENTRIES, &own, &out)?;
+    write_build("ruled", &ruled, ENTRIES, &own, &out)?;
+    write_build("counted", &counted, COUNTED_ENTRIES, &own, &out)
 }
 
 fn variable(name: &str) -> Result<String, String> {
@@ -103,17 +124,17 @@ fn read_text(source: &Path, file: &str) -> Result<String, String> {
 fn cut_out_all(text: &str) -> Result<String, String> {
     let mut pieces = String::new();
     for name in CONSERVATIVE_FUNCTIONS {
-        pieces.push_str(cut_out(text, name)?);
+        pieces.push_str(cut_out(CONSERVATIVE, text, name)?);
         pieces.push('\n');
     }
     Ok(pieces)
 }
 
 /// The text of the function `name`: from its line at the margin to the next brace at the margin.
-fn cut_out<'a>(text: &'a str, name: &str) -> Result<&'a str, String> {
+fn cut_out<'a>(file: &str, text: &'a str, name: &str) -> Result<&'a str, String> {
     let start_mark = format!("\nfn {name}(");
     let end_mark = "\n}\n";
-    let missing = || format!("{CONSERVATIVE} has no function `{name}` at the margin");
+    let missing = || format!("{file} has no function `{name}` at the margin");
 
     let start = text.find(&start_mark).ok_or_else(missing)? + 1;
     let length = text[start..].find(end_mark).ok_or_else(missing)? + end_mark.len();
@@ -146,8 +167,40 @@ fn ruled(plain: &Texts) -> Result<Texts, String> {
     })
 }
 
+/// The same texts with both tests of the cutting counted.
+fn counted(plain: &Texts) -> Result<Texts, String> {
+    let cutting = cut_out(POLYHEDRON, &plain.polyhedron, CUTTING)?;
+    let mentions = plain.polyhedron.matches(TESTED).count();
+    let mut polyhedron = plain.polyhedron.clone();
+    for (behind, pass) in TESTS {
+        let test = format!("if {TESTED}{behind} {{");
+        let found = cutting.matches(&test).count();
+        if found != 1 || mentions != TESTS.len() {
+            return Err(format!(
+                "the counter takes `{test}` once in `{CUTTING}`, and `{TESTED}` exactly {} times \
+                 in {POLYHEDRON}; found {found} there and {mentions} in all",
+                TESTS.len()
+            ));
+        }
+        let through = format!("if turn_tests::{pass}({TESTED}){behind} {{");
+        polyhedron = polyhedron.replace(&test, &through);
+    }
+    Ok(Texts {
+        convexity: plain.convexity.clone(),
+        polygon: plain.polygon.clone(),
+        polyhedron: polyhedron + TESTS_USES,
+        conservative: plain.conservative.clone(),
+    })
+}
+
 /// Writes the files of one build, and the list of modules that `lib.rs` includes.
-fn write_build(name: &str, texts: &Texts, own: &Path, out: &Path) -> Result<(), String> {
+fn write_build(
+    name: &str,
+    texts: &Texts,
+    entries: &str,
+    own: &Path,
+    out: &Path,
+) -> Result<(), String> {
     let folder = out.join(name);
     fs::create_dir_all(&folder).map_err(|why| format!("{}: {why}", folder.display()))?;
 
@@ -164,13 +217,14 @@ fn write_build(name: &str, texts: &Texts, own: &Path, out: &Path) -> Result<(), 
     write(&folder.join("polygon.rs"), &polygon)?;
     write(&folder.join("polyhedron.rs"), &polyhedron)?;
     write(&folder.join("conservative.rs"), &conservative)?;
-    write(&out.join(format!("{name}.rs")), &module_list(&folder, own))
+    let list = module_list(&folder, &own.join(entries));
+    write(&out.join(format!("{name}.rs")), &list)
 }
 
 /// The modules of one build, laid out as in mefikit where the Rust's own paths ask for it.
-fn module_list(folder: &Path, own: &Path) -> String {
+fn module_list(folder: &Path, entries: &Path) -> String {
     let file = |name: &str, head: &str| module_at(&folder.join(name), head);
-    let entries = module_at(&own.join("src/entries.rs"), "pub(crate) mod entries");
+    let entries = module_at(entries, "pub(crate) mod entries");
     [
         "#[allow(dead_code, unused_imports, clippy::all)]\nmod geometry {\n",
         &file("convexity.rs", "pub mod convexity"),

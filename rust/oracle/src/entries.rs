@@ -1,4 +1,5 @@
-//! The functions that the line protocol offers. This file is compiled into both builds.
+//! The functions that the line protocol offers. This file is compiled into the builds `plain` and
+//! `ruled`.
 
 use super::*;
 use crate::Shape;

@@ -1,14 +1,16 @@
 //! The Rust of mefikit, compiled as it stands, to judge the port by.
 //!
-//! Two builds of the same code stand side by side with the same functions in them: [`plain`], the
-//! Rust as it is, and [`ruled`], in which the two calls of `hypot` follow the rule of SCOPE 1. Each
-//! function carries the name of the Rust function that it calls. A single face is a list of
-//! `usize`, which is what the Rust itself takes; a whole cell is a [`Cell`].
+//! Three builds of the same code stand side by side with the same functions in them: [`plain`], the
+//! Rust as it is; [`ruled`], in which the two calls of `hypot` follow the rule of SCOPE 1; and
+//! [`counted`], in which the tests of turn × direction are counted as a face is cut. Each function
+//! carries the name of the Rust function that it calls, save [`counted::ear_clip_tests`], which
+//! tells the counts. A single face is a list of `usize`, which is what the Rust itself takes; a
+//! whole cell is a [`Cell`].
 //!
 //! The Rust panics where the port refuses. [`protocol::answer`] catches that; a caller of the
 //! functions themselves can use [`caught`].
 
-// The two builds share the files that open the way in; that is their purpose.
+// The builds share the files that open the way in; that is their purpose.
 #![allow(clippy::duplicate_mod)]
 
 #[cfg(all(debug_assertions, not(doc)))]
@@ -19,6 +21,7 @@ mod mesh;
 pub mod protocol;
 mod ruled_length;
 mod standins;
+mod turn_tests;
 
 pub use cell::{Cell, Shape};
 
@@ -30,6 +33,18 @@ pub mod plain {
 /// The Rust with its two calls of `hypot` replaced by the rule of SCOPE 1.
 pub mod ruled {
     include!(concat!(env!("OUT_DIR"), "/ruled.rs"));
+}
+
+/// The Rust as it is, but that each test of turn × direction is counted as a face is cut.
+pub mod counted {
+    include!(concat!(env!("OUT_DIR"), "/counted.rs"));
+
+    pub use crate::turn_tests::Tests;
+
+    /// The triangles of one face, and how many tests were made to find them.
+    pub fn ear_clip_tests(points: &[[f64; 3]], face: &[usize]) -> (Vec<[usize; 3]>, Tests) {
+        crate::turn_tests::made_in(|| ear_clip_triangles(points, face))
+    }
 }
 
 /// Runs `question` and gives its answer, or `None` where the Rust panics.

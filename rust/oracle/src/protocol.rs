@@ -1,8 +1,8 @@
 //! One question a line, one answer a line.
 //!
-//! A question is the name of a function, then `plain` or `ruled` if wanted (else `plain`), then its
-//! arguments, all apart by spaces. An answer is the value; or `panic` when the Rust panics; or
-//! `error` and the reason when the question cannot be read.
+//! A question is the name of a function, then `plain`, `ruled` or `counted` if wanted (else
+//! `plain`), then its arguments, all apart by spaces. An answer is the value; or `panic` when the
+//! Rust panics; or `error` and the reason when the question cannot be read.
 
 use std::str::SplitAsciiWhitespace;
 
@@ -23,12 +23,14 @@ fn dispatch(line: &str) -> Result<String, String> {
     match words.build() {
         Build::Plain => crate::plain::entries::answer(entry, words),
         Build::Ruled => crate::ruled::entries::answer(entry, words),
+        Build::Counted => crate::counted::entries::answer(entry, words),
     }
 }
 
 enum Build {
     Plain,
     Ruled,
+    Counted,
 }
 
 /// The words of a question that are not read yet.
@@ -55,6 +57,7 @@ impl<'a> Words<'a> {
         let build = match after.next() {
             Some("plain") => Build::Plain,
             Some("ruled") => Build::Ruled,
+            Some("counted") => Build::Counted,
             _ => return Build::Plain,
         };
         self.rest = after;

@@ -1,23 +1,10 @@
 //! SCOPE 17.8, 'the area is in the triangles', of what the Rust cuts: the rows of SCOPE 16.4, and
 //! random faces. Coordinates are whole numbers below 2^31 in magnitude, so areas are exact in i128.
 
+mod faces;
+
+use faces::{Random, Triangle, Vector, as_floats, level, plus, random_points, seven, started_at};
 use oracle::{plain, ruled};
-
-type Vector = [i128; 3];
-type Triangle = [usize; 3];
-
-fn as_floats(points: &[Vector]) -> Vec<[f64; 3]> {
-    points.iter().map(|p| p.map(|x| x as f64)).collect()
-}
-
-/// The corner list started at another place.
-fn started_at(start: usize, face: &[usize]) -> Vec<usize> {
-    [&face[start..], &face[..start]].concat()
-}
-
-fn plus(a: Vector, b: Vector) -> Vector {
-    [a[0] + b[0], a[1] + b[1], a[2] + b[2]]
-}
 
 /// The doubled area vector of a ring: the sum of a × b over its sides.
 fn area(points: &[Vector], ring: &[usize]) -> Vector {
@@ -69,17 +56,8 @@ fn full(points: &[Vector], face: &[usize], start: usize, cut: &[Triangle], all: 
     }
 }
 
-fn level(points: &[[i128; 2]]) -> Vec<Vector> {
-    points.iter().map(|p| [p[0], p[1], 0]).collect()
-}
-
 fn along_z(z: i128) -> Vector {
     [0, 0, z]
-}
-
-#[rustfmt::skip]
-fn seven() -> Vec<Vector> {
-    level(&[[0, 0], [10, 0], [0, 10], [0, 0], [0, -1], [-1, -1], [-1, 0]])
 }
 
 #[rustfmt::skip]
@@ -161,52 +139,13 @@ fn the_seven_corners_are_short_from_every_start() {
     }
 }
 
-/// Numbers that look random, by a seed.
-struct Random(u64);
-
-impl Random {
-    fn below(&mut self, n: u64) -> u64 {
-        self.0 ^= self.0 << 13;
-        self.0 ^= self.0 >> 7;
-        self.0 ^= self.0 << 17;
-        self.0 % n
-    }
-
-    /// From −limit to limit.
-    fn whole(&mut self, limit: i128) -> i128 {
-        self.below(2 * limit as u64 + 1) as i128 - limit
-    }
-}
-
-/// The places of 3 to 12 different vertices, which may coincide. They lie within a few units or
-/// some thousand of each other: at one height, in one slanting plane, or anywhere. One list in
-/// three lies up to 2^30 from the origin along each axis, where products of coordinates are mostly
-/// rounded.
-fn random_points(random: &mut Random) -> Vec<Vector> {
-    let corners = 3 + random.below(10);
-    let width = [2, 3, 6, 1000][random.below(4) as usize];
-    let kind = random.below(3);
-    let (by_x, by_y) = (random.whole(2), random.whole(2));
-    let far = if random.below(3) == 0 { 1 << 30 } else { 0 };
-    let place = [random.whole(far), random.whole(far), random.whole(far)];
-    let point = |_| {
-        let (x, y) = (random.whole(width), random.whole(width));
-        let z = match kind {
-            0 => 0,
-            1 => by_x * x + by_y * y,
-            _ => random.whole(width),
-        };
-        plus(place, [x, y, z])
-    };
-    (0..corners).map(point).collect()
-}
-
 #[test]
 fn the_area_of_a_random_face_is_in_its_triangles() {
     let mut random = Random(14);
     let (mut in_full, mut short) = (0, 0);
     for _ in 0..200_000 {
-        let points = random_points(&mut random);
+        let corners = 3 + random.below(10);
+        let points = random_points(corners, &mut random);
         let floats = as_floats(&points);
         let face: Vec<usize> = (0..points.len()).collect();
         let whole = area(&points, &face);

@@ -26,6 +26,29 @@ fn lists_are_counted() {
 }
 
 #[test]
+fn tests_are_counted_behind_the_triangles() {
+    let question = |face: &str| format!("ear_clip_tests counted {} {face}", square());
+    for _ in 0..2 {
+        assert_eq!(answer(&question("4 0 3 2 1")), "2 1 0 3 3 2 1 1");
+        assert_eq!(answer(&question("3 0 3 2")), "1 0 3 2 0");
+        assert_eq!(answer(&question("2 0 1")), "0 0");
+        assert_eq!(answer(&question("4 0 1 2 4")), "panic");
+    }
+    for build in ["", "plain", "ruled"] {
+        let question = format!("ear_clip_tests {build} {} 2 0 1", square());
+        assert_eq!(
+            answer(&question),
+            "error `ear_clip_tests` is no function of the oracle"
+        );
+    }
+    let question = format!("ear_clip_triangles counted {} 2 0 1", square());
+    assert_eq!(
+        answer(&question),
+        "error `ear_clip_triangles` is no function of the counted build"
+    );
+}
+
+#[test]
 fn the_build_is_chosen() {
     for build in ["", "plain", "ruled"] {
         let question = format!("plane_of_face {build} {} 4 0 1 2 3", square());

@@ -1,4 +1,4 @@
-//! The rows of SCOPE 16, 'Worked by hand', answered by both builds of the Rust.
+//! The rows of SCOPE 16, 'Worked by hand', answered by the builds `plain` and `ruled` of the Rust.
 
 use oracle::{Cell, plain, ruled};
 
@@ -32,7 +32,7 @@ fn moved(points: [[f64; 3]; 8], step: [f64; 3]) -> [[f64; 3]; 8] {
     points.map(|p| [p[0] + step[0], p[1] + step[1], p[2] + step[2]])
 }
 
-/// Asks the same of both builds, which must agree, and gives the answer.
+/// Asks the same of `plain` and `ruled`, which must agree, and gives the answer.
 macro_rules! both {
     ($function:ident($($argument:expr),*)) => {{
         let answer = plain::$function($($argument),*);
@@ -182,7 +182,7 @@ fn the_least_number_has_its_root() {
     assert_eq!(both!(area_polygon3(&points)), root / 2.0);
 }
 
-/// Where the two builds part: sums whose squares underflow.
+/// Where `plain` and `ruled` part: sums whose squares underflow.
 #[test]
 fn the_rule_loses_small_lengths() {
     let tiny = 2.0_f64.powi(-300);

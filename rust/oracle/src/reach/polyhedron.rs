@@ -198,7 +198,7 @@ fn plane([x, y, z, d]: [f64; 4]) -> Plane {
     Plane { n: [x, y, z], d }
 }
 
-/// The plane of one face, its normal of length 1. Here the two builds differ.
+/// The plane of one face, its normal of length 1. Here `plain` and `ruled` differ.
 pub fn plane_of_face(points: &[[f64; 3]], face: &[usize]) -> [f64; 4] {
     in_fours(super::plane_of_face(points, face))
 }

@@ -1,5 +1,5 @@
-/* Checks our own triangles of a face against the face, and the same with one triangle turned round. At the top of the
- * repository:
+/* Cuts a face and tells how many tests that took; then checks our own triangles against the face, and the same with one
+ * triangle turned round. At the top of the repository:
  *
  *     rt staticlib abi
  *     gcc -Iinclude examples/check.c target/staticlib/libabi.a -o check
@@ -35,18 +35,20 @@ static size_t tell(uint32_t (*triangles)[3], size_t count)
 int main(void)
 {
     uint32_t triangles[CORNERS - 2][3];
-    size_t count = 0;
+    size_t counts[2] = {0, 0};
 
     uint8_t refusal = wegrusamt_triangle_places(coords, LENGTH(coords), corners, LENGTH(corners), ends, LENGTH(ends), 0,
-                                                triangles, LENGTH(triangles), &count, 1);
+                                                triangles, LENGTH(triangles), counts, LENGTH(counts));
     if (refusal != 0) {
         fprintf(stderr, "the face is refused: %u\n", refusal);
         return 1;
     }
+    size_t count = counts[0], tests = counts[1];
     for (size_t k = 0; k < count; k++) {
         printf("places %u %u %u\n", triangles[k][0], triangles[k][1], triangles[k][2]);
     }
-    printf("%zu triangles, a cut of the face: ", count);
+    printf("%zu triangles after %zu tests, of at most %d\n", count, tests, CORNERS * CORNERS + CORNERS - 12);
+    printf("a cut of the face: ");
     size_t ours = tell(triangles, count);
 
     /* Turned round, a triangle runs its sides the wrong way. */

@@ -94,14 +94,17 @@ uint8_t wegrusamt_point_in_phed(const double *coords, size_t coords_len, const u
                                 size_t corners_len, double x, double y, double z, size_t *out, size_t out_len);
 
 /* The triangles of one face. out: three vertex numbers a triangle; out_len counts triangles, and a face of n >= 3
- * corners needs n - 2 places, even where the cut stops short. count: how many triangles there are. */
+ * corners needs n - 2 places, even where the cut stops short. count: 2 numbers, how many triangles there are and
+ * how many tests the cut made. A test asks whether the turn at a corner of the ring that is left, times the
+ * direction of the face, is at least 0; a ring of three is not tested. There are at most n * n + n - 12 tests for
+ * n >= 3, and none below; after a test at most n points of the ring are held against the corner's triangle. */
 uint8_t wegrusamt_triangles(const double *coords, size_t coords_len, const uint32_t *corners, size_t corners_len,
                             const uint32_t *ends, size_t ends_len, uint32_t face, uint32_t (*out)[3],
                             size_t out_len, size_t *count, size_t count_len);
 
 /* The same triangles by place: each number in out is the corner's place in the face's own corner list, from 0 to
  * n - 1, and not its vertex number. Looked up in that list the places are the numbers of wegrusamt_triangles, in the
- * same order. Refusals, room and count are as there. */
+ * same order. Refusals and room are as there, and so is count: 2 numbers, the triangles and the tests. */
 uint8_t wegrusamt_triangle_places(const double *coords, size_t coords_len, const uint32_t *corners,
                                   size_t corners_len, const uint32_t *ends, size_t ends_len, uint32_t face,
                                   uint32_t (*out)[3], size_t out_len, size_t *count, size_t count_len);
@@ -161,7 +164,7 @@ uint8_t wegrusamt_convex_intersection_volume(const double *coords, size_t coords
  * each, each side of the face (from a place to the next, and from the last to the first) occurs in exactly one
  * triangle in its own direction and in none reversed, and every other side that occurs does so once each way.
  * Where the points lie is not asked. What wegrusamt_triangle_places gives for a fully cut face of 3 to 256 corners
- * is such a cut: its count triangles are 3 * count numbers here, from &out[0][0] on. out: 1 or 0. */
+ * is such a cut: its count[0] triangles are 3 * count[0] numbers here, from &out[0][0] on. out: 1 or 0. */
 uint8_t wegrusamt_check_cut(uint32_t n, const uint32_t *places, size_t places_len, size_t *out, size_t out_len);
 
 /* ---- clipping ---- */

@@ -37,8 +37,10 @@ static size_t cut_faces(const double *list, uint32_t (*out)[3], size_t *count)
 {
     size_t all = 0;
     for (uint32_t face = 0; face < faces; face++) {
-        count[face] = 0;
-        wegrusamt_triangles(CELL(list), face, out + all, CORNERS - all, &count[face], 1);
+        /* Two numbers: how many triangles the face gives, and how many tests were made. Only the first is used. */
+        size_t said[2] = {0};
+        wegrusamt_triangles(CELL(list), face, out + all, CORNERS - all, said, 2);
+        count[face] = said[0];
         all += count[face];
     }
     return all;

@@ -21,8 +21,8 @@ ENTRY = {
     'pattern': (65, 0, 0), 'of_pattern': (66, 0, 0), 'cross2': (70, 0, 0), 'dominant_axis': (71, 0, 0),
     'plane_same_side': (72, 0, 0), 'plane_coplanar_opposite': (73, 0, 0), 'project2': (74, 2, 0),
     'segment_intersection': (75, 2, 0), 'segment_plane_intersection': (76, 3, 0), 'into_ccw': (80, 0, 0),
-    'turn_faces': (81, 0, 1), 'into_ccw2': (82, 0, 0), 'to_local': (83, 3, 0), 'triangles': (90, 0, 1),
-    'triangle_places': (91, 0, 1), 'clip_face': (100, 0, 2),
+    'turn_faces': (81, 0, 1), 'into_ccw2': (82, 0, 0), 'to_local': (83, 3, 0), 'triangles': (90, 0, 2),
+    'triangle_places': (91, 0, 2), 'clip_face': (100, 0, 2),
     'clip_convex': (101, 0, 2), 'convex_intersection_area': (102, 1, 0), 'convex_intersection_volume': (103, 1, 0)}
 
 # The entries that measure a cell and take nothing else.
@@ -109,7 +109,7 @@ class Oracle:
         self.rust = subprocess.Popen([binary], stdin=subprocess.PIPE, stdout=subprocess.PIPE, text=True)
 
     def ask(self, name, words, build='plain'):
-        """The words of the answer. Planes, and what rests on them, are asked of the build `ruled`."""
+        """The words of the answer. Planes, and what rests on them, are asked of the build `ruled`, the tests of a cut of `counted`."""
         self.rust.stdin.write(f'{name} {build} {words}\n')
         self.rust.stdin.flush()
         answer = self.rust.stdout.readline().split()

@@ -58,23 +58,35 @@ class CellCase(Case):
         turned_list = coords if why else flat(read_points(self.oracle.ask('into_ccw2', words)[1:], 2))
         self.put('into_ccw2', [], why, lent={'outline': [bits(x) for x in turned_list]})
 
+    def cut_over(self, coords, face):
+        """How many triangles a face gives, how many tests its cut makes, and the triangles. The Rust as it is cuts the face; the build
+        that counts the tests must give the same triangles."""
+        words = f'{points(coords)} {whole(face)}'
+        answer = self.oracle.ask('ear_clip_triangles', words)
+        *again, tests = self.oracle.ask('ear_clip_tests', words, 'counted')
+        if again != answer:
+            raise SystemExit(f'{self.name}: the build that counts tests cuts a face otherwise')
+        count, *triangles = [int(w) for w in answer]
+        return count, int(tests), triangles
+
     def cut(self, face):
-        return [int(w) for w in self.oracle.ask('ear_clip_triangles', f'{points(self.cell[0])} {whole(face)}')]
+        return self.cut_over(self.cell[0], face)
 
     def cut_by_place(self, face):
         """The cut of the face whose vertices are the points of its corners, in order."""
         corners = [x for v in face for x in self.cell[0][3 * v:3 * v + 3]]
-        return [int(w) for w in self.oracle.ask('ear_clip_triangles', f'{points(corners)} {whole(range(len(face)))}')]
+        return self.cut_over(corners, range(len(face)))
 
     def triangles(self, face, room=None, entry='triangles'):
-        """The triangles of a face, in a list of some places more than they need unless the room is given."""
+        """The triangles of a face, in a list of some places more than they need unless the room is given; how many there are, and
+        how many tests were made."""
         sound = face < len(self.cell[2]) and not refusal(self.cell)
         n = len(faces(self.cell)[face]) if sound else 3
         room = max(n - 2, 0) + 1 if room is None else room
         why = self.refused(entry, refusal(self.cell, face=face, room=room))
         ask = self.cut if entry == 'triangles' else self.cut_by_place
-        count, *cut = [0] if why else ask(faces(self.cell)[face])
-        self.put(entry, [face], why, counts=[count], shown=f' face {face}, {room} places', lent={'triangles': after(cut, 3 * room, MARK)})
+        count, tests, cut = (0, 0, []) if why else ask(faces(self.cell)[face])
+        self.put(entry, [face], why, counts=[count, tests], shown=f' face {face}, {room} places', lent={'triangles': after(cut, 3 * room, MARK)})
 
     def triangle_places(self, face, room=None):
         self.triangles(face, room, 'triangle_places')
@@ -160,6 +172,11 @@ MANY = [(k % 7, k % 11, k % 13) for k in range(257)]
 OVER = math.nextafter(LIMIT, math.inf)
 
 
+def in_words(triangles, tests):
+    """The remark on a cut: how many triangles it gives, and how many tests it makes."""
+    return ', '.join(f'{n} {word}' if n == 1 else f'{n} {word}s' for n, word in ((triangles, 'triangle'), (tests, 'test')))
+
+
 def worked(oracle):
     def case(name, cell, remark):
         c = CellCase(oracle, name, cell, remark)
@@ -168,14 +185,14 @@ def worked(oracle):
 
     out = []
     cube = cell_of(CUBE, HEX8)
-    for name, cell, room, said in (
-            ('cube_face', cube, 4, [1, 0, 3, 3, 2, 1]),
-            ('seven_corners', cell_of(SEVEN, [list(range(7))]), 6, [6, 0, 1, 6, 1, 2, 2, 3, 4]),
-            ('two_corners', cell_of(CUBE, [[4, 6]]), 2, []),
-            ('three_corners', cell_of(CUBE, [[4, 6, 1]]), 2, [4, 6, 1])):
-        c = case(name, cell, f'{len(said) // 3} triangles')
+    for name, cell, room, said, tests in (
+            ('cube_face', cube, 4, [1, 0, 3, 3, 2, 1], 1),
+            ('seven_corners', cell_of(SEVEN, [list(range(7))]), 6, [6, 0, 1, 6, 1, 2, 2, 3, 4], 12),
+            ('two_corners', cell_of(CUBE, [[4, 6]]), 2, [], 0),
+            ('three_corners', cell_of(CUBE, [[4, 6, 1]]), 2, [4, 6, 1], 0)):
+        c = case(name, cell, in_words(len(said) // 3, tests))
         c.triangles(0, room)
-        c.said(0, counts=[len(said) // 3], triangles=said + [MARK] * (3 * room - len(said)))
+        c.said(0, counts=[len(said) // 3, tests], triangles=said + [MARK] * (3 * room - len(said)))
     for name, p, said in (('cube_x_0', (0.0, 0.5, 0.5), 1), ('cube_x_1', (1.0, 0.5, 0.5), 0), ('cube_y_1', (0.5, 1.0, 0.5), 0)):
         c = case(name, cube, 'contained' if said else 'not contained')
         c.contains(p)

@@ -1,13 +1,43 @@
-"""Questions on triangles by place, and on triangles that are checked (SCOPE 7.9, SCOPE 20). The answers of `rows` are worked by hand, and
-table.py and cuts.py must give the same; those of random lists are theirs. Cuts by place are the Rust's."""
+"""Questions on triangles by place, on triangles that are checked (SCOPE 7.9, SCOPE 20), and on the tests of a cut (request 10). The answers
+of `rows` are worked by hand, and table.py and cuts.py must give the same; those of random lists are theirs. Cuts by place are the Rust's.
+The tests in `TESTED` are worked out ring by ring, apart from the oracle, and those that the oracle counts must be as many."""
 from asking import Case, MARK
 from cells import CUBE, HEX8, SEVEN, box, cell_of, outline, prism, torn
 from cuts import is_cut
-from on_cells import CellCase
+from on_cells import CellCase, in_words
 from table import check_refusal
 
 # The vertex in the middle stands at the places 1 and 4 of the face.
 HOURGLASS, TWICE = [(0, 0, 0), (1, 1, 0), (0, 2, 0), (2, 2, 0), (2, 0, 0)], [0, 1, 2, 3, 1, 4]
+
+
+# A whole number so large that the square of the next one is rounded; and nine corners of which the third blocks the last corner of every
+# ring of five or more, by rounding.
+NEAR, TINY = 2.0 ** 27, 2.0 ** -52
+NINE = [(7, -5, 0), (7 - 16 * TINY, -5 + 8 * TINY, 0), (2 * TINY, TINY, 0), (6, -4, 0), (-6 * TINY, 6 * TINY, 0), (-2 * TINY, 3 * TINY, 0),
+        (3 * TINY, -TINY, 0), (4 * TINY, -2 * TINY, 0), (11 * TINY, -10 * TINY, 0)]
+
+
+def alone(corners):
+    """A face of these corners, the only one of its cell."""
+    return cell_of(corners, [range(len(corners))])
+
+
+# A cell of one face, how many triangles that gives, and how many tests are made at its rings of more than three corners, one ring after the
+# other. Where two numbers stand in brackets both passes are made over a ring.
+TESTED = (
+    ('no_corner', cell_of(CUBE, [[]]), 0, 0), ('one_corner', cell_of(CUBE, [[3]]), 0, 0), ('two_corners', cell_of(CUBE, [[4, 6]]), 0, 0),
+    ('three_corners', cell_of(CUBE, [[4, 6, 1]]), 1, 0), ('three_in_a_point', cell_of(CUBE, [[2, 2, 2]]), 1, 0),
+    ('square', alone([(0, 0, 0), (1, 0, 0), (1, 1, 0), (0, 1, 0)]), 2, 1),
+    ('letter_l', alone([(0, 0, 0), (2, 0, 0), (2, 1, 0), (1, 1, 0), (1, 2, 0), (0, 2, 0)]), 4, 1 + 1 + 3),
+    ('seven', alone(SEVEN), 3, 1 + 1 + 2 + (4 + 4)),
+    ('spiked', alone([(0, 0, 0), (0, 2, 0), (0, 1, 0), (1, 0, 0), (2, 0, 0)]), 1, 1 + (4 + 4)),
+    ('second_pass', alone([(1, 1, 0), (3, 0, 0), (2, 1, 0), (0, 0, 0), (1, 3, 0), (3, 1, 0), (3, 3, 0)]), 5, (7 + 4) + 3 + 3 + 3),
+    # The foot of a thin box far from the origin: no corner stands its test, and 4 * 4 + 4 - 12 tests are the most there may be.
+    ('most', alone([(8588590.0 + x, 8529546.0 + y, 2969498.0) for x, y in ((0, 0), (0, 0.25), (0.05, 0.25), (0.05, 0))]), 0, (4 + 4)),
+    # The faces of crates/worked/specs/Tests.antt: both passes go over every ring to its end, and leave the corners 0 to 3.
+    ('most_4', alone([(NEAR, NEAR, 0), (NEAR, NEAR + 1, 0), (NEAR + 1, NEAR + 1, 0), (NEAR + 1, NEAR, 0)]), 0, (4 + 4)),
+    *((f'most_{n}', alone(NINE[:n]), n - 4, sum(m + m for m in range(4, n + 1))) for n in range(5, 10)))
 
 
 class ListCase(Case):
@@ -126,8 +156,8 @@ def cuts(oracle, rng):
             triangles = spoilt(rng, n, triangles)
         checked(k + 1, n, [p for t in triangles for p in t])
     hourglass = cut('hourglass', cell_of(HOURGLASS, [TWICE]), 'a face that holds a vertex twice')
-    hourglass.said(0, counts=[4], triangles=[5, 0, 1, 5, 1, 2, 5, 2, 3, 3, 4, 5])
-    cut('seven_corners', cell_of(SEVEN, [range(7)]), 'cut short').said(0, counts=[3], triangles=[6, 0, 1, 6, 1, 2, 2, 3, 4])
+    hourglass.said(0, counts=[4, 3], triangles=[5, 0, 1, 5, 1, 2, 5, 2, 3, 3, 4, 5])
+    cut('seven_corners', cell_of(SEVEN, [range(7)]), 'cut short').said(0, counts=[3, 12], triangles=[6, 0, 1, 6, 1, 2, 2, 3, 4])
     cut('small_faces', cell_of(CUBE, [[], [3], [4, 6], [4, 6, 1]]))
     cut('outside', (*cell_of(CUBE, HEX8)[:1], [8], [1]), 'refused 4')
     for k in range(30):
@@ -140,6 +170,18 @@ def cuts(oracle, rng):
     return out + [room]
 
 
+def tested(oracle):
+    """The faces of `TESTED`, by vertex and by place."""
+    out = []
+    for name, cell, count, tests in TESTED:
+        c = CellCase(oracle, f'tests_{name}', cell, in_words(count, tests))
+        c.triangles(0)
+        c.triangle_places(0)
+        c.said(0, counts=[count, tests])
+        out.append(c)
+    return out
+
+
 def short_lists(oracle):
     """A list too short for the answer is 6, after every other refusal."""
     out = []
@@ -150,5 +192,14 @@ def short_lists(oracle):
     for name, cell in (('places', cell_of(CUBE, HEX8)), ('places_index', (*cell_of(CUBE, HEX8)[:1], [8], [1]))):
         c = CellCase(oracle, 'short_lists_' + name, cell)
         c.in_short_lists('triangle_places', lambda c=c: c.triangle_places(0))
+        out.append(c)
+    # Lists for triangles and for both counts, each too short or not.
+    for name, cell in (('tests_seven', alone(SEVEN)), ('tests_two', cell_of(CUBE, [[4, 6]])),
+                       ('tests_three', cell_of(CUBE, [[4, 6, 1]])), ('tests_index', cell_of(CUBE, [[4, 6, 8]]))):
+        c = CellCase(oracle, 'short_lists_' + name, cell)
+        for entry in ('triangles', 'triangle_places'):
+            for room in (0, 1, 4, 5):
+                c.triangles(0, room, entry)
+                c.in_short_lists(entry, lambda c=c, room=room, entry=entry: c.triangles(0, room, entry))
         out.append(c)
     return out

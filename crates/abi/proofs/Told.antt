@@ -2,7 +2,7 @@
 use mathlib.Core.Path.{_≡_, refl, sym, _∙_, ap}
 use mathlib.Core.Logic.{_≢_}
 use mathlib.Core.Bool.{true, false}
-use mathlib.Core.List.{List, [], _∷_}
+use mathlib.Core.List.{List, []}
 use Prim.Native.Nat.{ℕ, _≤_, _<_}
 use native.Mathlib.Omega.{arith}
 use lib.ListN.{length}
@@ -10,14 +10,16 @@ use lib.Ieee.{Float}
 use borrow.Author.Tests.{eq-eqb, ne-eqb, lt-ltb, le-ltb}
 use Rattle.geometry.specs.declared.Number.{Number}
 use Rattle.geometry.specs.declared.Count.{Count}
+use Rattle.geometry.specs.declared.CutCounts.{CutCounts}
+use Rattle.geometry.specs.declared.FaceCut.{FaceCut}
 use Rattle.geometry.specs.declared.Place.{Place}
 use Rattle.geometry.specs.declared.Done.{Done}
 use Rattle.geometry.specs.declared.Clipped.{Clipped}
 use Rattle.geometry.specs.Points.{toLocalAnswer, localOriginAnswer}
 use Rattle.geometry.proofs.Answers.{origin-alike}
 use Rattle.geometry.specs.TurnFaces.{canTurnAnswer, TurnFacesGives}
-use Rattle.geometry.specs.Listed.{Listed, Reply, told, written, ofNumber, ofCount, ofDone, doneTold, ofShape, clippingTold, measureTold}
-use Rattle.geometry.specs.Listed.{ofPlace, countTold, toLocalTold, codeWithoutRoom, TurnFacesTold}
+use Rattle.geometry.specs.Listed.{Listed, Reply, told, written, ofNumber, ofCount, ofFaceCut, ofDone, doneTold, ofShape, clippingTold}
+use Rattle.geometry.specs.Listed.{measureTold, ofPlace, countTold, toLocalTold, codeWithoutRoom, TurnFacesTold}
 
 -- ---- beside the work lists
 pub shown-by : {c d : Clipped × List Float × List Float} → c ≡ d → (shown : List ℕ) {t : ℕ × List ℕ × List Float × List Float}
@@ -43,23 +45,29 @@ module _ (n : ℕ) (p : List Float) (answer : Listed) (xs : List Float) (ns : Li
   shape-passed h e = rw (eq-eqb (length p) n h) e
 
 -- ---- triangles
-pub uncounted-is : {L : Type 0} {a : Count} {list : L} {answer : Count × L} {n : ℕ} → (a, list) ≡ answer → a ≡ Count.Is n
-    → told 6 [] [] ≡ written (ofCount (answer .0)) [] []
+pub uncounted-is : {L : Type 0} {a : FaceCut} {list : L} {answer : FaceCut × L} {c : CutCounts} → (a, list) ≡ answer → a ≡ FaceCut.Is c
+    → told 6 [] [] ≡ written (ofFaceCut (answer .0)) [] []
 uncounted-is e q = rw (← e, q)
 
-pub uncounted-refused : {L : Type 0} {a : Count} {list : L} {answer : Count × L} {why : ℕ} → (a, list) ≡ answer → a ≡ Count.Refused why
-    → told why [] [] ≡ written (ofCount (answer .0)) [] []
+pub uncounted-refused : {L : Type 0} {a : FaceCut} {list : L} {answer : FaceCut × L} {why : ℕ} → (a, list) ≡ answer
+    → a ≡ FaceCut.Refused why
+    → told why [] [] ≡ written (ofFaceCut (answer .0)) [] []
 uncounted-refused e q = rw (← e, q)
 
-module _ (answer : List (List ℕ) → Count × List (List ℕ)) (out : List (List ℕ)) where
-  pub count-short : (count : List ℕ) {r : ℕ} → length count < 1 → told r [] [] ≡ written (ofCount (answer [] .0)) [] []
-      → (r, out, count) ≡ countTold answer out count
-  count-short [] h e = rw (ap (λ (t : Reply). t .0) e, ← ap (λ (t : Reply). t .2) e)
-  count-short (x ∷ xs) h e = absurd (omega arith)
+-- a list that is too short for two counts is answered as an empty one, and stays as it was
+short-alike : (a : FaceCut) (count : List ℕ) → length count < 2
+    → written (ofFaceCut a) [] count ≡ told (written (ofFaceCut a) [] [] .0) [] count
+short-alike (FaceCut.Is c) count h = rw (lt-ltb (length count) 2 h)
+short-alike (FaceCut.Refused why) count h = refl
 
-  pub count-long : (count : List ℕ) {a : Count} {r : ℕ} {out′ : List (List ℕ)} {count′ : List ℕ} → 1 ≤ length count
-      → (a, out′) ≡ answer out → told r [] count′ ≡ written (ofCount a) [] count → (r, out′, count′) ≡ countTold answer out count
-  count-long count h e p = rw (le-ltb (length count) 1 h, ← e, ap (λ (t : Reply). t .0) p, ap (λ (t : Reply). t .2) p)
+module _ (answer : List (List ℕ) → FaceCut × List (List ℕ)) (out : List (List ℕ)) where
+  pub count-short : (count : List ℕ) {r : ℕ} → length count < 2 → told r [] [] ≡ written (ofFaceCut (answer [] .0)) [] []
+      → (r, out, count) ≡ countTold answer out count
+  count-short count h e = rw (lt-ltb (length count) 2 h, short-alike (answer [] .0) count h, ap (λ (t : Reply). t .0) e)
+
+  pub count-long : (count : List ℕ) {a : FaceCut} {r : ℕ} {out′ : List (List ℕ)} {count′ : List ℕ} → 2 ≤ length count
+      → (a, out′) ≡ answer out → told r [] count′ ≡ written (ofFaceCut a) [] count → (r, out′, count′) ≡ countTold answer out count
+  count-long count h e p = rw (le-ltb (length count) 2 h, ← e, ap (λ (t : Reply). t .0) p, ap (λ (t : Reply). t .2) p)
 
 -- ---- vertices moved to a local origin: where there is no room for the vector the entry that only asks answers alike
 module _ (coords out : List Float) where

@@ -6,7 +6,7 @@ ghost use Rattle.geometry.specs.Cells.{volumeAnswer, centroidAnswer, geometricC
 ghost use Rattle.geometry.specs.Cells.{closedAnswer, containsAnswer, pointInPhedAnswer, trianglesAnswer};
 ghost use Rattle.geometry.specs.Survey.{surveyAnswer};
 ghost use Rattle.geometry.specs.CheckCut.{checkCutAnswer};
-ghost use Rattle.geometry.specs.Listed.{told, written, ofNumber, ofTruth, ofCount, ofPlace, ofExtent, ofSurveyed, trianglesTold};
+ghost use Rattle.geometry.specs.Listed.{told, written, ofNumber, ofTruth, ofFaceCut, ofPlace, ofExtent, ofSurveyed, trianglesTold};
 ghost use Rattle.geometry.specs.Listed.{trianglePlacesTold};
 
 #[no_mangle]
@@ -114,18 +114,19 @@ pub extern "C" fn wegrusamt_point_in_phed(
     answer_lists::put_truth(geometry::point_in_phed(coords, cs, [x, y, z]), out)
 }
 
-// The return code of `triangles`, and so of `triangle_places`, when the caller's list for the count is empty.
+// The return code of `triangles`, and so of `triangle_places`, when the caller's list for the two counts is too short.
 fn uncounted(coords: &[f64], corners: &[u32], ends: &[u32], face: u32) -> u8
-    ensures { λ r. ⌜ told r [] [] ≡ written (ofCount (trianglesAnswer (old coords) (old corners) (old ends) face [] .0)) [] [] ⌝ }
+    ensures { λ r. ⌜ told r [] [] ≡ written (ofFaceCut (trianglesAnswer (old coords) (old corners) (old ends) face [] .0)) [] [] ⌝ }
 {
     let mut none = [[0; 3]; 1];
     match geometry::triangles(coords, corners, ends, face, &mut none[..0]) {
-        geometry::Count::Is(_) => 6,
-        geometry::Count::Refused(why) => why,
+        geometry::FaceCut::Is(_) => 6,
+        geometry::FaceCut::Refused(why) => why,
     }
 }
 
-// Their count goes into a list of its own. Without a place for it there is no room for a triangle either, so that nothing is written.
+// How many triangles there are and how many turn tests were made go into a list of their own. Without two places there is no room for a
+// triangle either, so that nothing is written.
 #[no_mangle]
 pub extern "C" fn wegrusamt_triangles(
     coords: &[f64],
@@ -137,10 +138,10 @@ pub extern "C" fn wegrusamt_triangles(
 ) -> u8
     ensures { λ r. ⌜ (r, new out, new count) ≡ trianglesTold (old coords) (old corners) (old ends) face (old out) (old count) ⌝ }
 {
-    if count.len() < 1 {
+    if count.len() < 2 {
         return uncounted(coords, corners, ends, face);
     }
-    answer_lists::put_count(geometry::triangles(coords, corners, ends, face, out), count)
+    answer_lists::put_face_cut(geometry::triangles(coords, corners, ends, face, out), count)
 }
 
 #[no_mangle]
@@ -154,10 +155,10 @@ pub extern "C" fn wegrusamt_triangle_places(
 ) -> u8
     ensures { λ r. ⌜ (r, new out, new count) ≡ trianglePlacesTold (old coords) (old corners) (old ends) face (old out) (old count) ⌝ }
 {
-    if count.len() < 1 {
+    if count.len() < 2 {
         return uncounted(coords, corners, ends, face);
     }
-    answer_lists::put_count(
+    answer_lists::put_face_cut(
         geometry::triangle_places(coords, corners, ends, face, out),
         count,
     )

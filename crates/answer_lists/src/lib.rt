@@ -3,13 +3,14 @@ pub mod given;
 pub mod shown;
 
 ghost use mathlib.Core.Path.{_≡_};
-ghost use mathlib.Core.List.{[], _∷_};
+ghost use mathlib.Core.List.{[]};
 ghost use Rattle.places.specs.Lent.{old, new};
 ghost use Rattle.places.specs.Loops.{oneIf};
 ghost use Rattle.geometry.specs.declared.Surveyed.{Surveyed};
 ghost use Rattle.geometry.specs.declared.Described.{Described};
-ghost use Rattle.geometry.specs.Listed.{told, Listed, values, written, shapeNumber, ofNumber, ofTruth, ofCount, ofPlace, ofPlanePlace};
-ghost use Rattle.geometry.specs.Listed.{ofExtent, ofPlaneExtent, ofDone, ofSurveyed, ofDescribed, ofFacePlane, ofClipped, codeWithoutRoom};
+ghost use Rattle.geometry.specs.Listed.{told, values, written, shapeNumber, ofNumber, ofTruth, ofCount, ofFaceCut, ofPlace};
+ghost use Rattle.geometry.specs.Listed.{ofPlanePlace, ofExtent, ofPlaneExtent, ofDone, ofSurveyed, ofDescribed, ofFacePlane, ofClipped};
+ghost use Rattle.geometry.specs.Listed.{codeWithoutRoom};
 
 // 1 for yes, 0 for no, as a byte, which a function answers.
 pub fn bit(b: bool) -> u8
@@ -76,6 +77,15 @@ pub fn put_count(a: geometry::Count, out: &mut [usize]) -> u8
     match a {
         geometry::Count::Is(n) => put_counts(&[n], out),
         geometry::Count::Refused(why) => why,
+    }
+}
+
+pub fn put_face_cut(a: geometry::FaceCut, out: &mut [usize]) -> u8
+    ensures { λ r. ⌜ told r [] (new out) ≡ written (ofFaceCut a) [] (old out) ⌝ }
+{
+    match a {
+        geometry::FaceCut::Is(c) => put_counts(&[c.triangles, c.tests], out),
+        geometry::FaceCut::Refused(why) => why,
     }
 }
 

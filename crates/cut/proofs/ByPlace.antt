@@ -1,5 +1,5 @@
 -- The cut by place is the one cut: a place has the point of the vertex that stands there, so the places of a face go through the same
--- rings, corner for corner, as its vertex numbers do. So as many triangles are cut, and as many corners are left.
+-- rings, corner for corner, as its vertex numbers do. So as many triangles are cut, as many corners are left, and as many tests are made.
 use mathlib.Core.Path.{_≡_, refl, sym, ap, _∙_}
 use mathlib.Core.List.{List, [], _∷_, map}
 use mathlib.Core.Bool.{Bool, true, false, cond}
@@ -19,7 +19,8 @@ use Rattle.flat.specs.Flat.{pointOf, pointsOf}
 use Rattle.flat.specs.Steps.{Inside}
 use Rattle.flat.proofs.Corners.{length-corners, corner-at}
 use Rattle.next_corner.specs.NextCorner.{directionOf}
-use Rattle.cut.specs.Cut.{Cut, nothing, cutWith, cutRing, nextCornerOf, cutIn, axisFor, cutOf, cutByPlace, ringAt, ByPlace}
+use Rattle.next_corner.specs.declared.Choice.{Choice}
+use Rattle.cut.specs.Cut.{Cut, nothing, cutWith, tested, cutRing, nextCornerOf, cutIn, axisFor, cutOf, cutByPlace, ringAt, ByPlace}
 use Rattle.cut.specs.Steps.{Within, InOrder, Shown}
 use Rattle.cut.specs.declared.Counts.{Counts}
 use Rattle.cut.proofs.Facts.{choice-below}
@@ -27,7 +28,7 @@ use Rattle.cut.proofs.Going.{ring-long, whole-ring, ring-without}
 
 -- the places of a cut looked up in the face
 abbrev lookedUp : List ℕ → Cut → Cut
-lookedUp face cut = record { triangles = map (ringAt face) (cut .triangles); left = ringAt face (cut .left) }
+lookedUp face cut = record { triangles = map (ringAt face) (cut .triangles); left = ringAt face (cut .left); tests = cut .tests }
 
 -- the triangle at a place of a ring, looked up, is that of the ring looked up
 ear-looked : (face : List ℕ) (k : ℕ) (ks : List ℕ) → k < length ks → earOf k (ringAt face ks) ≡ ringAt face (earOf k ks)
@@ -53,10 +54,10 @@ module _ (vs : List Point) (face : List ℕ) where
   -- ---- so the same corner is chosen at every ring, and the two cuts run alike
   module _ (axis : ℕ) (dir : Float) where
     -- the choice among places, and the one among vertex numbers
-    abbrev byPlace : List ℕ → Found
+    abbrev byPlace : List ℕ → Choice
     byPlace = nextCornerOf (cornersOf vs face) axis dir
 
-    abbrev byNumber : List ℕ → Found
+    abbrev byNumber : List ℕ → Choice
     byNumber = nextCornerOf vs axis dir
 
     choice-alike : (ks : List ℕ) → Within face ks → byNumber (ringAt face ks) ≡ byPlace ks
@@ -67,9 +68,10 @@ module _ (vs : List Point) (face : List ℕ) where
         → cutRing byNumber more (ringAt face ks) ≡ lookedUp face (cutRing byPlace more ks)
     unfolding cutRing ringAt
     rings-alike zero ks w = refl
-    rings-alike (suc more) ks w = rw (choice-alike ks w) (go (byPlace ks) refl (rings-alike more))
+    rings-alike (suc more) ks w =
+        rw (choice-alike ks w) (ap (tested (byPlace ks .tests)) (go (byPlace ks .corner) refl (rings-alike more)))
       where
-        go : (f : Found) → byPlace ks ≡ f
+        go : (f : Found) → byPlace ks .corner ≡ f
             → ((js : List ℕ) → Within face js → cutRing byNumber more (ringAt face js) ≡ lookedUp face (cutRing byPlace more js))
             → cutWith f (ringAt face ks) (cutRing byNumber more) ≡ lookedUp face (cutWith f ks (cutRing byPlace more))
         go Nothing e ih = refl
@@ -113,9 +115,12 @@ by-place vs face =
     go true = refl
     go false = refl
 
--- ---- so the two cuts have as many triangles, and leave as many corners
+-- ---- so the two cuts have as many triangles, take as many tests and leave as many corners
 pub by-place-long : (vs : List Point) (face : List ℕ) → length (cutOf vs face .triangles) ≡ length (cutByPlace vs face .triangles)
 by-place-long vs face = ap (λ c. length (c .triangles)) (by-place vs face) ∙ length-map (cutByPlace vs face .triangles) (ringAt face)
+
+pub by-place-tests : (vs : List Point) (face : List ℕ) → cutOf vs face .tests ≡ cutByPlace vs face .tests
+by-place-tests vs face = ap (λ c. c .tests) (by-place vs face)
 
 by-place-over : (vs : List Point) (face : List ℕ) → length (cutOf vs face .left) ≡ length (cutByPlace vs face .left)
 by-place-over vs face = ap (λ c. length (c .left)) (by-place vs face) ∙ ring-long face (cutByPlace vs face .left)

@@ -1,10 +1,11 @@
 -- What holds of every cut. One induction over the definition, and what it gives: how many triangles there are, of which corners,
--- and what sums over sides they keep.
+-- what sums over sides they keep, and how many tests it makes at most; and that counting these changed no triangle.
 use mathlib.Core.Path.{_≡_, refl, _∙_, ap}
 use mathlib.Core.Bool.{Bool, true, false, cond}
 use mathlib.Core.List.{List, [], _∷_, _++_, append-nil}
-use Prim.Native.Nat.{ℕ, zero, suc, _+_, _-_, _<_, _≤_}
+use Prim.Native.Nat.{ℕ, zero, suc, _+_, _-_, _*_, _<_, _≤_}
 use native.Mathlib.Omega.{arith}
+use native.Mathlib.Nat.{mul-le-mul}
 use borrow.Author.Tests.{ltb-true, ltb-false}
 use lib.Dec.{ltb}
 use lib.ListN.{length, length-map}
@@ -24,41 +25,50 @@ use Rattle.exact.proofs.Alike.{Alike, sum-faces}
 use Rattle.exact.proofs.Volume.{Three}
 use Rattle.flat.specs.Points.{Point}
 use Rattle.flat.specs.Steps.{Inside}
-use Rattle.next_corner.specs.NextCorner.{turnsAt}
+use Rattle.next_corner.specs.NextCorner.{directionOf, turnsAt, findCorner}
 use Rattle.flat.specs.Flat.{pointOf, pointsOf}
-use Rattle.cut.specs.Cut.{Cut, nothing, clipped, cutWith, cutRing, nextCornerOf, cutIn, axisFor, directionFor, cutOf}
-use Rattle.next_corner.proofs.NextCorner.{choose-below, choose-none}
+use Rattle.next_corner.specs.declared.Choice.{Choice}
+use Rattle.cut.specs.Cut.{Cut, nothing, clipped, cutWith, tested, cutRing, nextCornerOf, cutIn, axisFor, directionFor, cutOf}
+use Rattle.cut.specs.Tests.{TestsWithin, AsBefore}
+use Rattle.next_corner.proofs.NextCorner.{choose-below, choose-none, choose-tests}
 
 -- ---- the induction
 -- a property of rings and their cuts, kept by each way of cutting
-pub record Kept (choose : List ℕ → Found) (P : List ℕ → Cut → Type 0) : Type 0 where
+pub record Kept (choose : List ℕ → Choice) (P : List ℕ → Cut → Type 0) : Type 0 where
   pub small : (r : List ℕ) → length r < 3 → P r nothing
-  pub three : (r : List ℕ) → length r ≡ 3 → P r (record { triangles = r ∷ []; left = [] })
-  pub stop : (r : List ℕ) → 4 ≤ length r → choose r ≡ Nothing → P r (record { triangles = []; left = r })
-  pub clip : (k : ℕ) (r : List ℕ) (c : Cut) → 4 ≤ length r → k < length r → P (without k r) c → P r (clipped k r c)
+  pub three : (r : List ℕ) → length r ≡ 3 → P r (record { triangles = r ∷ []; left = []; tests = 0 })
+  pub stop : (r : List ℕ) → 4 ≤ length r → choose r .corner ≡ Nothing
+      → P r (tested (choose r .tests) (record { triangles = []; left = r; tests = 0 }))
+  pub clip : (k : ℕ) (r : List ℕ) (c : Cut) → 4 ≤ length r → k < length r → P (without k r) c
+      → P r (tested (choose r .tests) (clipped k r c))
 
-module _ (choose : List ℕ → Found) (P : List ℕ → Cut → Type 0) (below : (r : List ℕ) (k : ℕ) → choose r ≡ At k → k < length r)
+module _ (choose : List ℕ → Choice) (P : List ℕ → Cut → Type 0) (below : (r : List ℕ) (k : ℕ) → choose r .corner ≡ At k → k < length r)
     (p : Kept choose P) where
   ring-all : (more : ℕ) (r : List ℕ) → length r ≡ more + 3 → P r (cutRing choose more r)
   unfolding cutRing
   ring-all zero r h = p .three r (omega arith)
-  ring-all (suc more) r h = go (choose r) refl (ring-all more)
+  ring-all (suc more) r h = go (choose r .corner) refl (ring-all more)
     where
-      go : (f : Found) → choose r ≡ f → ((s : List ℕ) → length s ≡ more + 3 → P s (cutRing choose more s))
-          → P r (cutWith f r (cutRing choose more))
+      go : (f : Found) → choose r .corner ≡ f → ((s : List ℕ) → length s ≡ more + 3 → P s (cutRing choose more s))
+          → P r (tested (choose r .tests) (cutWith f r (cutRing choose more)))
       go Nothing e ih = p .stop r (omega arith) e
       go (At k) e ih =
           let l : k < length r = below r k e in
           p .clip k r (cutRing choose more (without k r)) (omega arith) l (ih (without k r) (omega (arith, length-without k r l)))
 
--- a corner that is chosen is one of the ring
-pub choice-below : (vs : List Point) (axis : ℕ) (dir : Float) (r : List ℕ) (k : ℕ) → nextCornerOf vs axis dir r ≡ At k → k < length r
-unfolding nextCornerOf pointsOf
-choice-below vs axis dir r k e = omega (arith, choose-below (pointsOf vs axis r) dir k e, length-map r (pointOf vs axis))
+-- a corner that is chosen is one of the ring, and at most two tests a corner are made to choose it
+module _ (vs : List Point) (axis : ℕ) (dir : Float) (r : List ℕ) where
+  pub choice-below : (k : ℕ) → nextCornerOf vs axis dir r .corner ≡ At k → k < length r
+  unfolding nextCornerOf pointsOf
+  choice-below k e = omega (arith, choose-below (pointsOf vs axis r) dir k e, length-map r (pointOf vs axis))
+
+  choice-tests : nextCornerOf vs axis dir r .tests ≤ length r + length r
+  unfolding nextCornerOf pointsOf
+  choice-tests = omega (arith, choose-tests (pointsOf vs axis r) dir, length-map r (pointOf vs axis))
 
 module _ (vs : List Point) (face : List ℕ) where
   -- the choice that a face's rings are cut by
-  abbrev pub choice : List ℕ → Found
+  abbrev pub choice : List ℕ → Choice
   choice = nextCornerOf vs (axisFor vs face) (directionFor vs face)
 
   pub cut-all : (P : List ℕ → Cut → Type 0) → Kept choice P → P face (cutOf vs face)
@@ -72,10 +82,10 @@ module _ (vs : List Point) (face : List ℕ) where
           ring-all choice P below p (length face - 3) face (omega (arith, ltb-false (length face) 3 e))
 
 -- ---- how many: n − 2, or fewer with a ring of four or more left, of which no corner is chosen
-pub data Ends (choose : List ℕ → Found) (r : List ℕ) (c : Cut) : Type 0 where
+pub data Ends (choose : List ℕ → Choice) (r : List ℕ) (c : Cut) : Type 0 where
   few : length r < 3 → c .triangles ≡ [] → c .left ≡ [] → Ends choose r c
   full : c .left ≡ [] → length (c .triangles) + 2 ≡ length r → Ends choose r c
-  short : 4 ≤ length (c .left) → choose (c .left) ≡ Nothing → length (c .triangles) + length (c .left) ≡ length r → Ends choose r c
+  short : 4 ≤ length (c .left) → choose (c .left) .corner ≡ Nothing → length (c .triangles) + length (c .left) ≡ length r → Ends choose r c
 
 pub cut-ends : (vs : List Point) (face : List ℕ) → Ends (choice vs face) face (cutOf vs face)
 cut-ends vs face = cut-all vs face (Ends (choice vs face)) (record {
@@ -86,7 +96,7 @@ cut-ends vs face = cut-all vs face (Ends (choice vs face)) (record {
 })
   where
     more : (k : ℕ) (r : List ℕ) (c : Cut) → 4 ≤ length r → length (without k r) ≡ length r - 1
-        → Ends (choice vs face) (without k r) c → Ends (choice vs face) r (clipped k r c)
+        → Ends (choice vs face) (without k r) c → Ends (choice vs face) r (tested (choice vs face r .tests) (clipped k r c))
     more k r c h e (few l a b) = absurd (omega arith)
     more k r c h e (full a b) = full a (omega arith)
     more k r c h e (short a b d) = short a b (omega arith)
@@ -152,9 +162,55 @@ cut-alike vs face = record {
 }
 
 -- ---- where a ring is left no corner of it turns the way of the face
-pub stuck-turns : (vs : List Point) (face ring : List ℕ) → choice vs face ring ≡ Nothing → (k : ℕ) → k < length ring
+pub stuck-turns : (vs : List Point) (face ring : List ℕ) → choice vs face ring .corner ≡ Nothing → (k : ℕ) → k < length ring
     → turnsAt (pointsOf vs (axisFor vs face) ring) (directionFor vs face) k ≡ false
 unfolding nextCornerOf pointsOf
 stuck-turns vs face ring e k h =
     let many = length-map ring (pointOf vs (axisFor vs face)) in
     choose-none (pointsOf vs (axisFor vs face) ring) (directionFor vs face) e k (omega (arith, many))
+
+-- ---- how many tests: at a ring of m corners at most 2m are made, and 2m is what n² + n grows by from one ring to the next
+abbrev FewTests : List ℕ → Cut → Type 0
+FewTests r c = c .tests ≤ length r * length r + length r - 12
+
+grows : (m j here rest : ℕ) → m ≡ j + 1 → 4 ≤ m → here ≤ m + m → rest ≤ j * j + j - 12 → here + rest ≤ m * m + m - 12
+grows m j here rest e h a b =
+    let three : 3 ≤ j = omega arith in
+    rw e (omega (arith, mul-le-mul three three))
+
+few-tests : (choose : List ℕ → Choice) → ((r : List ℕ) → choose r .tests ≤ length r + length r) → Kept choose FewTests
+few-tests choose two = record {
+  small = λ r h. omega arith;
+  three = λ r h. omega arith;
+  stop = λ r h e. grows (length r) (length r - 1) _ 0 (omega arith) h (two r) (omega arith);
+  clip = λ k r c h l q. grows (length r) (length r - 1) _ (c .tests) (omega arith) h (two r) (rw (length-without k r l) at q);
+}
+
+-- of a face that is seen along any axis
+pub in-tests : (vs : List Point) (axis : ℕ) (face : List ℕ) → 3 ≤ length face
+    → cutIn vs axis face .tests ≤ length face * length face + length face - 12
+unfolding cutIn
+in-tests vs axis face h =
+    let dir = directionOf (pointsOf vs axis face) in
+    let choose = nextCornerOf vs axis dir in
+    ring-all choose FewTests (choice-below vs axis dir) (few-tests choose (choice-tests vs axis dir)) (length face - 3) face (omega arith)
+
+pub tests-within : TestsWithin
+unfolding cutOf
+tests-within vs face = go (ltb (length face) 3) refl
+  where
+    go : (b : Bool) → ltb (length face) 3 ≡ b
+        → cond b nothing (cutIn vs (axisFor vs face) face) .tests ≤ cond b 0 (length face * length face + length face - 12)
+    go true e = omega arith
+    go false e = in-tests vs (axisFor vs face) face (ltb-false (length face) 3 e)
+
+-- ---- the triangles and the ring are what they were before tests were counted: no line of theirs speaks of a test
+pub as-before : AsBefore
+unfolding cutRing nextCornerOf findCorner cutOf cutIn directionFor
+as-before = record {
+  corner = λ vs axis dir ring. refl;
+  three = λ choose ring. refl;
+  none = λ choose more ring e. rw e;
+  some = λ choose more k ring e. rw e;
+  whole = λ vs face. refl;
+}

@@ -1,7 +1,6 @@
 -- The loop of `cut_ring`: at its head the ring that is left, cut on, makes the whole cut, and each step keeps that;
 -- and the cut of a face, which is that of a ring in the face's own plane.
 use mathlib.Core.Path.{_≡_, refl, sym, ap, _∙_}
-use mathlib.Core.Bool.{Bool, true, false}
 use mathlib.Core.List.{List, [], _∷_, _++_, map}
 use Prim.Native.Nat.{ℕ, suc, _+_, _-_, _<_, _≤_}
 use native.Mathlib.Omega.{arith}
@@ -13,56 +12,43 @@ use lib.Ieee.{Float}
 use Rattle.places.specs.Lists.{Each, without}
 use Rattle.places.specs.Steps.{removed}
 use Rattle.places.specs.Ring.{earOf}
-use Rattle.places.specs.declared.Found.{Found}
 use Rattle.places.specs.declared.Found.the-variants.{At, Nothing}
 use Rattle.places.proofs.Lists.{take-removed, take-three, map-at, map-without, sets-front, each-append, each-without, each-slice}
 use Rattle.next_corner.specs.NextCorner.{findCorner, directionOf}
 use Rattle.flat.specs.Points.{Point, cornersOf}
 use Rattle.flat.specs.Flat.{newellOf, axisOf, pointOf, pointsOf}
-use Rattle.cut.specs.Cut.{Cut, clipped, cutRing, nextCornerOf, cutIn, axisFor, cutOf, ringAt}
-use Rattle.cut.specs.Steps.{triangleAt, Within, InOrder, StepAt, Stepped, Shown}
+use Rattle.next_corner.specs.declared.Choice.{Choice}
+use Rattle.cut.specs.Cut.{Cut, clipped, cutWith, tested, cutRing, nextCornerOf, cutIn, axisFor, cutOf, ringAt}
+use Rattle.cut.specs.Steps.{triangleAt, Within, InOrder, Shown}
 use Rattle.cut.specs.declared.Counts.{Counts}
 use Rattle.next_corner.proofs.NextCorner.{choose-below}
 
 -- one step of the definition, at a ring of m corners
-module _ (choose : List ℕ → Found) (m : ℕ) (ring : List ℕ) where
-  pub cut-none : 3 < m → choose ring ≡ Nothing → cutRing choose (m - 3) ring ≡ record { triangles = []; left = ring }
+module _ (choose : List ℕ → Choice) (m : ℕ) (ring : List ℕ) where
+  cut-more : 3 < m
+      → cutRing choose (m - 3) ring ≡ tested (choose ring .tests) (cutWith (choose ring .corner) ring (cutRing choose (m - 1 - 3)))
   unfolding cutRing
-  cut-none h e =
+  cut-more h =
       let g : m - 3 ≡ suc (m - 1 - 3) = omega arith in
-      rw (g, e)
+      rw g
 
-  pub cut-some : (k : ℕ) → 3 < m → choose ring ≡ At k
-      → cutRing choose (m - 3) ring ≡ clipped k ring (cutRing choose (m - 1 - 3) (without k ring))
-  unfolding cutRing
-  cut-some k h e =
-      let g : m - 3 ≡ suc (m - 1 - 3) = omega arith in
-      rw (g, e)
+  cut-none : 3 < m → choose ring .corner ≡ Nothing
+      → cutRing choose (m - 3) ring ≡ tested (choose ring .tests) (record { triangles = []; left = ring; tests = 0 })
+  cut-none h e = cut-more h ∙ rw e
 
-  pub cut-three : m ≤ 3 → cutRing choose (m - 3) ring ≡ record { triangles = ring ∷ []; left = [] }
+  cut-some : (k : ℕ) → 3 < m → choose ring .corner ≡ At k
+      → cutRing choose (m - 3) ring ≡ tested (choose ring .tests) (clipped k ring (cutRing choose (m - 1 - 3) (without k ring)))
+  cut-some k h e = cut-more h ∙ rw e
+
+  cut-three : m ≤ 3 → cutRing choose (m - 3) ring ≡ record { triangles = ring ∷ []; left = []; tests = 0 }
   unfolding cutRing
   cut-three h =
       let g : m - 3 ≡ 0 = omega arith in
       rw g
 
--- what a step's answer tells
-module _ {face : List ℕ} {f : Found} {ks : List ℕ} {ps : List Point} {out : List (List ℕ)} {t : ℕ} {r : Bool}
-    {ks′ : List ℕ} {ps′ : List Point} {out′ : List (List ℕ)} where
-  pub step-no : Stepped face f ks ps out t r ks′ ps′ out′ → r ≡ false → (f ≡ Nothing) × (out′ ≡ out)
-  step-no s e = go f (s .did)
-    where
-      go : (f : Found) → StepAt face f ks ps out t r ks′ ps′ out′ → (f ≡ Nothing) × (out′ ≡ out)
-      go Nothing s = (refl, s .3)
-      go (At k) s = (cc, cc)
-
-  pub step-yes : Stepped face f ks ps out t r ks′ ps′ out′ → r ≡ true
-      → (k : ℕ) × (f ≡ At k) × (ks′ ≡ removed k ks) × (ps′ ≡ removed k ps) × (out′ ≡ set out t (earOf k (ringAt face ks)))
-  step-yes s e = go f (s .did)
-    where
-      go : (f : Found) → StepAt face f ks ps out t r ks′ ps′ out′
-          → (k : ℕ) × (f ≡ At k) × (ks′ ≡ removed k ks) × (ps′ ≡ removed k ps) × (out′ ≡ set out t (earOf k (ringAt face ks)))
-      go Nothing s = (0, cc, cc, cc, cc)
-      go (At k) s = (k, refl, s .1, s .2, s .3)
+  -- the tests of the choice are among those of the cut
+  tests-first : 3 < m → choose ring .tests ≤ cutRing choose (m - 3) ring .tests
+  tests-first h = rw (cut-more h) (omega arith)
 
 -- ---- the ring as places of the face
 -- it has as many corners as there are places
@@ -115,8 +101,9 @@ module _ (vs : List Point) (face : List ℕ) (axis : ℕ) (dir : Float) where
   abbrev rest : ℕ → List ℕ → Cut
   rest m ks = cutRing (nextCornerOf vs axis dir) (m - 3) (ringAt face (take m ks))
 
-  -- the ring is the first m of ks, its points the first m of ps; t triangles are written; what is left to do from here makes the whole
-  pub record Going (whole : Cut) (out₀ : List (List ℕ)) (ks : List ℕ) (ps : List Point) (out : List (List ℕ)) (m t : ℕ) : Type 0 where
+  -- the ring is the first m of ks, its points the first m of ps; t triangles are written, and so many tests are made; what is left to do
+  -- from here makes the whole
+  pub record Going (whole : Cut) (out₀ : List (List ℕ)) (ks : List ℕ) (ps : List Point) (out : List (List ℕ)) (m t tests : ℕ) : Type 0 where
     pub low : 3 ≤ m
     pub high : m ≤ length face
     pub many : length ks ≡ length face
@@ -127,12 +114,13 @@ module _ (vs : List Point) (face : List ℕ) (axis : ℕ) (dir : Float) where
     pub seen : take m ps ≡ pointsOf vs axis (ringAt face (take m ks))
     pub count : t + length (rest m ks .triangles) ≡ length (whole .triangles)
     pub over : rest m ks .left ≡ whole .left
+    pub all-tests : tests + rest m ks .tests ≡ whole .tests
     pub written : sets out t (rest m ks .triangles) ≡ sets out₀ 0 (whole .triangles)
 
 pub start : (vs : List Point) (face : List ℕ) (axis : ℕ) (ks : List ℕ) (ps : List Point) (out : List (List ℕ)) (dir : Float)
     → 3 ≤ length face → length face - 2 ≤ length out → InOrder ks → length ks ≡ length face → ps ≡ pointsOf vs axis face
     → dir ≡ directionOf ps
-    → Going vs face axis dir (cutIn vs axis face) out ks ps out (length face) 0
+    → Going vs face axis dir (cutIn vs axis face) out ks ps out (length face) 0 0
 unfolding cutIn pointsOf
 start vs face axis ks ps out dir l r o n s d =
     let e : length ps ≡ length face = ap length s ∙ length-map face (pointOf vs axis) in
@@ -149,11 +137,12 @@ start vs face axis ks ps out dir l r o n s d =
       seen = rw (tn, tp) s;
       count = rw (tn, d, s) (omega arith);
       over = rw (tn, d, s);
+      all-tests = rw (tn, d, s) (omega arith);
       written = rw (tn, d, s);
     }
 
 module _ {vs : List Point} {face : List ℕ} {axis : ℕ} {dir : Float} {whole : Cut} {out₀ : List (List ℕ)} {ks : List ℕ} {ps : List Point}
-    {out : List (List ℕ)} {m t : ℕ} (g : Going vs face axis dir whole out₀ ks ps out m t) where
+    {out : List (List ℕ)} {m t tests : ℕ} (g : Going vs face axis dir whole out₀ ks ps out m t tests) where
   -- the ring of vertex numbers
   abbrev ring : List ℕ
   ring = ringAt face (take m ks)
@@ -173,36 +162,46 @@ module _ {vs : List Point} {face : List ℕ} {axis : ℕ} {dir : Float} {whole :
   ring-many : length ring ≡ m
   ring-many = ring-long face (take m ks) ∙ length-take-le m ks (omega (arith, g .high, g .many))
 
+  -- the tests of the next choice are among those of the whole cut
+  pub tests-so-far : 3 < m → tests + findCorner (take m ps) dir .tests ≤ whole .tests
+  tests-so-far h = omega (arith, rw chosen at (tests-first (nextCornerOf vs axis dir) m ring h), g .all-tests)
+
   -- what is in the list at the end
   shown : (r : Counts) (out′ : List (List ℕ)) → r .triangles ≡ length (whole .triangles) → r .left ≡ length (whole .left)
-      → r .triangles ≤ length out₀ → out′ ≡ sets out₀ 0 (whole .triangles)
+      → r .tests ≡ whole .tests → r .triangles ≤ length out₀ → out′ ≡ sets out₀ 0 (whole .triangles)
       → Shown whole r out₀ out′
-  shown r out′ a b h e = record { count = a; over = b; written = e ∙ sets-front out₀ (whole .triangles) (omega arith) ∙ rw a }
+  shown r out′ a b d h e = record {
+    count = a;
+    over = b;
+    tests = d;
+    written = e ∙ sets-front out₀ (whole .triangles) (omega arith) ∙ rw a;
+  }
 
   -- no corner can be cut: stop
-  pub stop : (out′ : List (List ℕ)) → 3 < m → findCorner (take m ps) dir ≡ Nothing → out′ ≡ out
-      → Shown whole (record { triangles = t; left = m }) out₀ out′
-  stop out′ h e o =
-      let q = cut-none (nextCornerOf vs axis dir) m ring h (chosen ∙ e) in
-      shown (record { triangles = t; left = m }) out′ (omega (arith, rw q at (g .count)))
-      (sym ring-many ∙ ap length (rw q at (g .over))) (omega (arith, g .room)) (o ∙ (rw q at (g .written)))
+  pub stop : 3 < m → findCorner (take m ps) dir .corner ≡ Nothing
+      → Shown whole (record { triangles = t; left = m; tests = tests + findCorner (take m ps) dir .tests }) out₀ out
+  stop h e =
+      let q = cut-none (nextCornerOf vs axis dir) m ring h (ap (λ c. c .corner) chosen ∙ e) in
+      shown _ out (omega (arith, rw q at (g .count))) (sym ring-many ∙ ap length (rw q at (g .over)))
+      (omega (arith, rw (q, chosen) at (g .all-tests))) (omega (arith, g .room)) (rw q at (g .written))
 
   -- a ring of three: it is the last triangle
   pub end : (out′ : List (List ℕ)) → m ≤ 3
       → out′ ≡ set out t (triangleAt (ringAt face ks) 0 1 2)
-      → Shown whole (record { triangles = t + 1; left = 0 }) out₀ out′
+      → Shown whole (record { triangles = t + 1; left = 0; tests = tests }) out₀ out′
   end out′ h o =
       let e : m ≡ 3 = omega (arith, g .low) in
       let q = cut-three (nextCornerOf vs axis dir) m ring h in
-      shown (record { triangles = t + 1; left = 0 }) out′ (omega (arith, rw q at (g .count))) (ap length (rw q at (g .over)))
+      shown _ out′ (omega (arith, rw q at (g .count))) (ap length (rw q at (g .over))) (omega (arith, rw q at (g .all-tests)))
       (omega (arith, g .room))
       (o ∙ rw (← ring-three face ks (omega (arith, g .high, g .many)), ← e) (rw q at (g .written)))
 
   -- a step
-  pub again : (k : ℕ) (ks′ : List ℕ) (ps′ : List Point) (out′ : List (List ℕ)) → 3 < m → findCorner (take m ps) dir ≡ At k
+  pub again : (k : ℕ) (ks′ : List ℕ) (ps′ : List Point) (out′ : List (List ℕ)) → 3 < m → findCorner (take m ps) dir .corner ≡ At k
       → ks′ ≡ removed k (take m ks) → ps′ ≡ removed k (take m ps) → out′ ≡ set out t (earOf k ring)
       → length ks′ ≡ length (take m ks) → length ps′ ≡ length (take m ps) → length out′ ≡ length out
       → Going vs face axis dir whole out₀ (ks′ ++ drop m ks) (ps′ ++ drop m ps) out′ (m - 1) (t + 1)
+      (tests + findCorner (take m ps) dir .tests)
   unfolding pointsOf
   again k ks′ ps′ out′ h e en ep eo ln lp lo =
       let fk : length (ks′ ++ drop m ks) ≡ length ks = length-front ks ks′ m ln in
@@ -214,7 +213,7 @@ module _ {vs : List Point} {face : List ℕ} {axis : ℕ} {dir : Float} {whole :
       let rk : take (m - 1) (ks′ ++ drop m ks) ≡ without k (take m ks) = rw en (take-removed k m ks b hk) in
       let rn : ringAt face (take (m - 1) (ks′ ++ drop m ks)) ≡ without k ring = rw rk (ring-without face k (take m ks)) in
       let rp : take (m - 1) (ps′ ++ drop m ps) ≡ without k (take m ps) = rw ep (take-removed k m ps b hp) in
-      let q = cut-some (nextCornerOf vs axis dir) m ring k h (chosen ∙ e) in
+      let q = cut-some (nextCornerOf vs axis dir) m ring k h (ap (λ c. c .corner) chosen ∙ e) in
       record {
         low = omega arith;
         high = omega (arith, g .high);
@@ -226,6 +225,7 @@ module _ {vs : List Point} {face : List ℕ} {axis : ℕ} {dir : Float} {whole :
         seen = rw (rn, rp, map-without (pointOf vs axis) k ring) (ap (without k) (g .seen));
         count = rw rn (omega (arith, rw q at (g .count)));
         over = rw rn (rw q at (g .over));
+        all-tests = rw rn (omega (arith, rw (q, chosen) at (g .all-tests)));
         written = rw (rn, eo, add-one) (rw q at (g .written));
       }
 
@@ -237,6 +237,6 @@ unfolding cutOf axisFor
 ring-shown vs face h e a s = rw (le-ltb (length face) 3 h, ← e, ← a) s
 
 pub small-shown : (vs : List Point) (face : List ℕ) (out : List (List ℕ)) → length face < 3
-    → Shown (cutOf vs face) (record { triangles = 0; left = 0 }) out out
+    → Shown (cutOf vs face) (record { triangles = 0; left = 0; tests = 0 }) out out
 unfolding cutOf
-small-shown vs face out h = rw (lt-ltb (length face) 3 h) (record { count = refl; over = refl; written = refl })
+small-shown vs face out h = rw (lt-ltb (length face) 3 h) (record { count = refl; over = refl; tests = refl; written = refl })

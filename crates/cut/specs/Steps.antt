@@ -1,16 +1,10 @@
 -- What functions below the gatehouse ask of and promise each other; no contract of a public entry speaks of these.
 use Prim.Native.Nat.{ℕ, _<_}
 use mathlib.Core.Path.{_≡_}
-use mathlib.Core.Bool.{Bool, true, false}
 use mathlib.Core.List.{List, [], _∷_, _++_}
-use lib.ListN.{length, getD, drop, set}
-use Rattle.flat.specs.Points.{Point}
+use lib.ListN.{length, getD, drop}
 use Rattle.places.specs.Lists.{Each}
-use Rattle.places.specs.Steps.{removed}
-use Rattle.places.specs.Ring.{earOf}
-use Rattle.places.specs.declared.Found.{Found}
-use Rattle.places.specs.declared.Found.the-variants.{At, Nothing}
-use Rattle.cut.specs.Cut.{Cut, ringAt}
+use Rattle.cut.specs.Cut.{Cut}
 use Rattle.cut.specs.declared.Counts.{Counts}
 
 -- ---- a ring of a face is kept as a list of places of the face, and its corners are those that stand there (`ringAt`)
@@ -26,21 +20,10 @@ triangleAt ring i k j = getD ring i 0 ∷ getD ring k 0 ∷ getD ring j 0 ∷ []
 abbrev pub InOrder : List ℕ → Type 0
 InOrder ks = (k : ℕ) → k < length ks → getD ks k 0 ≡ k
 
--- ---- what the lent lists hold after a step and after a cut
--- one step, by what was chosen: with nothing chosen all stays, else the triangle is at place t of `out` and the corner goes
--- from both lists of the ring
-abbrev pub StepAt : List ℕ → Found → List ℕ → List Point → List (List ℕ) → ℕ → Bool → List ℕ → List Point → List (List ℕ) → Type 0
-StepAt face Nothing ks ps out t r ks′ ps′ out′ = (r ≡ false) × (ks′ ≡ ks) × (ps′ ≡ ps) × (out′ ≡ out)
-StepAt face (At k) ks ps out t r ks′ ps′ out′ =
-    (r ≡ true) × (ks′ ≡ removed k ks) × (ps′ ≡ removed k ps) × (out′ ≡ set out t (earOf k (ringAt face ks)))
-
-pub record Stepped (face : List ℕ) (f : Found) (ks : List ℕ) (ps : List Point) (out : List (List ℕ)) (t : ℕ) (r : Bool)
-    (ks′ : List ℕ) (ps′ : List Point) (out′ : List (List ℕ)) : Type 0 where
-  pub did : StepAt face f ks ps out t r ks′ ps′ out′
-
--- a cut: the counts are those of the triangles and of the corners left; the triangles stand at the front of `out`,
--- and places after the last are as they were
+-- ---- what the lent list holds after a cut: the counts are those of the triangles, of the corners left and of the tests; the triangles
+-- stand at the front of `out`, and places after the last are as they were
 pub record Shown (cut : Cut) (r : Counts) (out out′ : List (List ℕ)) : Type 0 where
   pub count : r .triangles ≡ length (cut .triangles)
   pub over : r .left ≡ length (cut .left)
+  pub tests : r .tests ≡ cut .tests
   pub written : out′ ≡ cut .triangles ++ drop (r .triangles) out

@@ -92,7 +92,7 @@ fn by_place_2048(coords: &[f64], face: &[u32], out: &mut [[u32; 3]]) -> crate::C
 }
 
 // A face is cut by place: its triangles are written to the front of out, each corner as its place in the face. The answer says how many,
-// and how many corners are left if the cutting stopped short.
+// how many corners are left if the cutting stopped short, and how many turn tests were made.
 pub fn cut_by_place(coords: &[f64], face: &[u32], out: &mut [[u32; 3]]) -> crate::Counts
     requires { ⌜ Inside (verticesOf (now coords)) (now face) ⌝ }
     requires { ⌜ (length (now face) ≤ mostCorners) × (length (now face) - 2 ≤ length (now out)) ⌝ }

@@ -2,7 +2,7 @@
 pub mod by_place;
 
 ghost use mathlib.Core.Path.{_≡_};
-ghost use Prim.Native.Nat.{ℕ, _-_, _<_, _≤_};
+ghost use Prim.Native.Nat.{_-_, _<_, _≤_};
 ghost use lib.ListN.{length, getD, set};
 ghost use Rattle.places.specs.Lent.{old, new};
 ghost use Rattle.places.specs.Limits.{mostCorners};
@@ -10,15 +10,26 @@ ghost use Rattle.places.specs.Steps.{removed};
 ghost use Rattle.places.specs.Ring.{earOf};
 ghost use Rattle.flat.specs.Points.{verticesOf};
 ghost use Rattle.flat.specs.Steps.{Inside};
-ghost use Rattle.next_corner.specs.NextCorner.{findCorner};
 ghost use Rattle.flat.specs.Flat.{pointsOf};
 ghost use Rattle.cut.specs.Cut.{cutIn, cutOf, ringAt};
-ghost use Rattle.cut.specs.Steps.{triangleAt, Within, InOrder, Stepped, Shown};
+ghost use Rattle.cut.specs.Steps.{triangleAt, Within, InOrder, Shown};
 
-// How many triangles a cut gave, and how many corners of the ring it left (none where it came to its end).
+// How many triangles a cut gave, how many corners of the ring it left (none where it came to its end), and how many turn tests were made.
 pub struct Counts {
     pub triangles: usize,
     pub left: usize,
+    pub tests: usize,
+}
+
+// The counts of a cut in one line, for each of its ends.
+fn counted(triangles: usize, left: usize, tests: usize) -> Counts
+    ensures { λ r. ⌜ r ≡ record { triangles = triangles; left = left; tests = tests } ⌝ }
+{
+    Counts {
+        triangles,
+        left,
+        tests,
+    }
 }
 
 // While a face is cut, the ring is kept as places of the face (ks) beside the points of its corners (ps). A place takes 16 bits, since a
@@ -93,29 +104,6 @@ fn cut_at(
     remove_point(ps, k);
 }
 
-// One cut, if there is a corner to cut.
-fn step(
-    face: &[u32],
-    ks: &mut [u16],
-    ps: &mut [[f64; 2]],
-    dir: f64,
-    out: &mut [[u32; 3]],
-    t: usize,
-) -> bool
-    requires { ⌜ Within (now face) (now ks) ⌝ }
-    requires { ⌜ (length (now ks) ≡ length (now ps)) × (t < length (now out)) ⌝ }
-    ensures { λ r. ⌜ Stepped (old face) (findCorner (old ps) dir) (old ks) (old ps) (old out) t r (new ks) (new ps) (new out) ⌝ }
-{
-    let f = next_corner::find_corner(ps, dir);
-    match f {
-        places::Found::Nothing => false,
-        places::Found::At(k) => {
-            cut_at(face, ks, ps, k, out, t);
-            true
-        }
-    }
-}
-
 // The places of a face in order, and the points of its corners, are laid down in lists of their own.
 fn fill_places(ks: &mut [u16])
     requires { ⌜ length (now ks) ≤ mostCorners ⌝ }
@@ -162,22 +150,21 @@ fn cut_ring(
     let dir = next_corner::direction(ps);
     let mut m = face.len();
     let mut t = 0;
+    let mut tests = 0;
     while m > 3 {
-        if !step(face, &mut ks[..m], &mut ps[..m], dir, out, t) {
-            return Counts {
-                triangles: t,
-                left: m,
-            };
-        }
+        let c = next_corner::find_corner(&ps[..m], dir);
+        tests += c.tests;
+        let chosen = c.corner;
+        let places::Found::At(k) = chosen else {
+            return counted(t, m, tests);
+        };
+        cut_at(face, &mut ks[..m], &mut ps[..m], k, out, t);
         m -= 1;
         t += 1;
     }
     let last = triangle_at(face, ks, 0, 1, 2);
     out[t] = last;
-    Counts {
-        triangles: t + 1,
-        left: 0,
-    }
+    counted(t + 1, 0, tests)
 }
 
 // A face is cut in two lists that are lent for it.
@@ -232,8 +219,8 @@ fn cut_2048(coords: &[f64], face: &[u32], out: &mut [[u32; 3]]) -> Counts
     cut_in(coords, face, &mut ks[..n], &mut ps[..n], out)
 }
 
-// A face is cut: its triangles are written to the front of out. The answer says how many, and how many corners are left
-// if the cutting stopped short.
+// A face is cut: its triangles are written to the front of out. The answer says how many, how many corners are left if the cutting
+// stopped short, and how many turn tests were made.
 pub fn cut(coords: &[f64], face: &[u32], out: &mut [[u32; 3]]) -> Counts
     requires { ⌜ Inside (verticesOf (now coords)) (now face) ⌝ }
     requires { ⌜ (length (now face) ≤ mostCorners) × (length (now face) - 2 ≤ length (now out)) ⌝ }
@@ -241,10 +228,7 @@ pub fn cut(coords: &[f64], face: &[u32], out: &mut [[u32; 3]]) -> Counts
 {
     let n = face.len();
     if n < 3 {
-        return Counts {
-            triangles: 0,
-            left: 0,
-        };
+        return counted(0, 0, 0);
     }
     if n <= 16 {
         return cut_16(coords, face, out);

@@ -22,11 +22,12 @@ use Rattle.cut_check.specs.CutCheck.{IsCut}
 use Rattle.cut_check.proofs.Accepted.{accepted-area}
 use Rattle.refusals.proofs.Refusals.{Checked, check-passes}
 use Rattle.geometry.specs.declared.Truth.{Truth}
-use Rattle.geometry.specs.declared.Count.{Count}
+use Rattle.geometry.specs.declared.CutCounts.{CutCounts}
+use Rattle.geometry.specs.declared.FaceCut.{FaceCut}
 use Rattle.geometry.specs.Cells.{faceNumbered, trianglesAnswer, trianglePlacesAnswer}
 use Rattle.geometry.specs.CheckCut.{checkCutAnswer, YesForCuts}
 use Rattle.geometry.proofs.OneFace.{cut-written}
-use Rattle.geometry.proofs.CheckCut.{yes-for-cuts, same-count}
+use Rattle.geometry.proofs.CheckCut.{yes-for-cuts, same-counts}
 use Rattle.demand3.specs.Demand3.{Full, placeOf}
 use Rattle.demand3.specs.CheckCut.{SameTriangles, OwnCut, OwnEntry, AcceptedArea, AcceptedFace}
 use Rattle.demand3.proofs.Demand3.{full-left}
@@ -83,26 +84,28 @@ same-triangles coords corners ends k out numbers places r s e f = (alike, looked
   where
     alike : r ≡ s
     alike =
-        let count : Count × List (List ℕ) → Count = λ x. x .0 in
-        ap count e ∙ sym (same-count coords corners ends k out) ∙ sym (ap count f)
+        let counts : FaceCut × List (List ℕ) → FaceCut = λ x. x .0 in
+        ap counts e ∙ sym (same-counts coords corners ends k out) ∙ sym (ap counts f)
 
-    looked : (m : ℕ) → r ≡ Count.Is m → take m numbers ≡ map (ringAt (faceNumbered corners ends k)) (take m places)
-    looked m q =
+    looked : (c : CutCounts) → r ≡ FaceCut.Is c
+        → take (c .triangles) numbers ≡ map (ringAt (faceNumbered corners ends k)) (take (c .triangles) places)
+    looked c q =
         let vs = verticesOf coords in
         let face = faceNumbered corners ends k in
-        let one = cut-written (cutOf vs face) coords corners ends k out numbers m (rw q at e) in
-        let other = cut-written (cutByPlace vs face) coords corners ends k out places m (rw (← alike, q) at f) in
+        let one = cut-written (cutOf vs face) coords corners ends k out numbers c (rw q at e) in
+        let other = cut-written (cutByPlace vs face) coords corners ends k out places c (rw (← alike, q) at f) in
         rw (one .1, other .1) (ap (λ c. c .triangles) (by-place vs face))
 
 pub own-entry : OwnEntry
 unfolding trianglePlacesAnswer
-own-entry coords corners ends k out after m e low high =
+own-entry coords corners ends k out after c e low high =
     let vs = verticesOf coords in
     let face = faceNumbered corners ends k in
-    let w = cut-written (cutByPlace vs face) coords corners ends k out after m e in
+    let w = cut-written (cutByPlace vs face) coords corners ends k out after c e in
+    let counted : c .triangles ≡ length (cutByPlace vs face .triangles) = ap (λ (x : CutCounts). x .triangles) (w .0) in
     let full = accepted-is-full vs face low high in
     let many = by-place-long vs face in
-    rw (w .1) (λ y. omega (arith, w .0, full .0 y low), λ n. full .1 (λ _. omega (arith, w .0)))
+    rw (w .1) (λ y. omega (arith, full .0 y low), λ n. full .1 (λ _. omega arith))
 
 -- ---- what is accepted has the face's area
 pub accepted-has-area : AcceptedArea

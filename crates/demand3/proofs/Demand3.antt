@@ -32,7 +32,7 @@ module _ (vs : List Point) (face : List ℕ) where
   abbrev Ending : Type 0
   Ending = Ends (choice vs face) face (cutOf vs face)
 
-  stuck : 4 ≤ length (cutOf vs face .left) → choice vs face (cutOf vs face .left) ≡ Nothing → Stuck vs face (cutOf vs face .left)
+  stuck : 4 ≤ length (cutOf vs face .left) → choice vs face (cutOf vs face .left) .corner ≡ Nothing → Stuck vs face (cutOf vs face .left)
   stuck a b = record { four = a; none = stuck-turns vs face (cutOf vs face .left) b }
 
   end-full : Ending → 3 ≤ length face → (length (cutOf vs face .triangles) + 2 ≡ length face) ↔ (¬ Stuck vs face (cutOf vs face .left))

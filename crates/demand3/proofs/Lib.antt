@@ -9,3 +9,4 @@ pub mod Turns
 pub mod Local
 pub mod OwnCut
 pub mod CheckCut
+pub mod Tests

@@ -22,8 +22,9 @@ use Rattle.floats.proofs.Within.{Within, within-neg, within-sub, within-mul, wi
 use Rattle.flat.specs.Points.{Point, at, verticesOf}
 use Rattle.flat.specs.Steps.{Inside}
 use Rattle.flat.specs.Flat.{cross2Of, project2Of, pointOf, pointsOf, summedAreaOf}
-use Rattle.next_corner.specs.NextCorner.{directionOf, turnsOf, turnsAt, earAt, findEar, findTurn, findCorner, orElse}
-use Rattle.cut.specs.Cut.{nothing, cutWith, clipped, cutRing, nextCornerOf, cutIn, axisFor, directionFor, cutOf}
+use Rattle.next_corner.specs.NextCorner.{directionOf, turnsOf, turnsAt, earAt, findEar, findTurn, findCorner, choiceBy}
+use Rattle.next_corner.specs.declared.Choice.{Choice}
+use Rattle.cut.specs.Cut.{nothing, cutWith, clipped, tested, cutRing, nextCornerOf, cutIn, axisFor, directionFor, cutOf}
 use Rattle.cell.specs.Faces.{facesOf}
 use Rattle.cell.specs.Refusals.{numberRefused}
 use Rattle.cell.proofs.Faces.{length-faces, face-at}
@@ -77,11 +78,12 @@ first-same p q (suc left) i h =
     rw (h i (omega arith) (omega arith), first-same p q left (i + 1) (λ k a b. h k (omega arith) (omega arith)))
 
 -- on each ring of vertices: they make the same cut, since a ring without a corner is still one of vertices
-ring-same : (vs : List Point) (p q : List ℕ → Found) → ((ring : List ℕ) → Inside vs ring → p ring ≡ q ring)
+ring-same : (vs : List Point) (p q : List ℕ → Choice) → ((ring : List ℕ) → Inside vs ring → p ring ≡ q ring)
     → (more : ℕ) (ring : List ℕ) → Inside vs ring → cutRing p more ring ≡ cutRing q more ring
 unfolding cutRing
 ring-same vs p q same zero ring inside = refl
-ring-same vs p q same (suc more) ring inside = rw (same ring inside) (go (q ring) (ring-same vs p q same more))
+ring-same vs p q same (suc more) ring inside =
+    rw (same ring inside) (ap (tested (q ring .tests)) (go (q ring .corner) (ring-same vs p q same more)))
   where
     go : (f : Found) → ((r : List ℕ) → Inside vs r → cutRing p more r ≡ cutRing q more r)
         → cutWith f ring (cutRing p more) ≡ cutWith f ring (cutRing q more)
@@ -150,7 +152,7 @@ module _ (coords : List Float) (t : numberRefused coords ≡ false) where
     choose-same : rustFindCorner ps dir ≡ findCorner ps dir
     unfolding rustFindCorner findCorner findEar
     choose-same =
-        ap (λ (f : Found). orElse f (findTurn ps dir))
+        ap (λ (f : Found). choiceBy (length ps) f (findTurn ps dir))
         (first-same (rustEarAt ps dir) (earAt ps dir) (length ps) 0 (λ k a b. ear-same k (omega arith)))
 
   -- ---- the cut of a face

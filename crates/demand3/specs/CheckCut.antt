@@ -16,19 +16,21 @@ use Rattle.exact.specs.Space.{V3, area, areas}
 use Rattle.flat.specs.Points.{Point}
 use Rattle.cut.specs.Cut.{cutByPlace, ringAt}
 use Rattle.geometry.specs.declared.Truth.{Truth}
-use Rattle.geometry.specs.declared.Count.{Count}
+use Rattle.geometry.specs.declared.CutCounts.{CutCounts}
+use Rattle.geometry.specs.declared.FaceCut.{FaceCut}
 use Rattle.geometry.specs.Cells.{faceNumbered, trianglesAnswer, trianglePlacesAnswer}
 use Rattle.geometry.specs.CheckCut.{checkCutAnswer}
 use Rattle.demand3.specs.Demand3.{Full}
 use Rattle.demand3.specs.Area.{areaOf, areasOf}
 
--- 'Triangles are given by place, our own cut's included': `triangles` and `triangle_places` give as many, or refuse alike, and the places
--- looked up in the face are the vertex numbers, triangle by triangle
+-- 'Triangles are given by place, our own cut's included': `triangles` and `triangle_places` give as many, by as many tests, or refuse
+-- alike, and the places looked up in the face are the vertex numbers, triangle by triangle
 abbrev pub SameTriangles : Type 0
 SameTriangles =
-    (coords : List Float) (corners ends : List ℕ) (k : ℕ) (out numbers places : List (List ℕ)) (r s : Count)
+    (coords : List Float) (corners ends : List ℕ) (k : ℕ) (out numbers places : List (List ℕ)) (r s : FaceCut)
     → (r, numbers) ≡ trianglesAnswer coords corners ends k out → (s, places) ≡ trianglePlacesAnswer coords corners ends k out
-    → (r ≡ s) × ((m : ℕ) → r ≡ Count.Is m → take m numbers ≡ map (ringAt (faceNumbered corners ends k)) (take m places))
+    → (r ≡ s) × ((c : CutCounts) → r ≡ FaceCut.Is c →
+    take (c .triangles) numbers ≡ map (ringAt (faceNumbered corners ends k)) (take (c .triangles) places))
 
 -- 'Whatever our own cut gives for a fully cut face of 3 to 256 corners is accepted.' Of a face that is cut short it is not: there are too
 -- few triangles
@@ -37,14 +39,14 @@ OwnCut =
     (vs : List Point) (face : List ℕ) → 3 ≤ length face → length face ≤ mostCheckedCorners →
     (checkCutAnswer (length face) (joined (cutByPlace vs face .triangles)) ≡ Truth.Is true) ↔ Full vs face
 
--- the same of the two entries: the m triangles that `triangle_places` writes for the face k of a cell, handed to `check_cut`, are accepted
+-- the same of the two entries: the triangles that `triangle_places` writes for the face k of a cell, handed to `check_cut`, are accepted
 -- exactly where they are n − 2
 abbrev pub OwnEntry : Type 0
 OwnEntry =
-    (coords : List Float) (corners ends : List ℕ) (k : ℕ) (out after : List (List ℕ)) (m : ℕ)
-    → (Count.Is m, after) ≡ trianglePlacesAnswer coords corners ends k out →
+    (coords : List Float) (corners ends : List ℕ) (k : ℕ) (out after : List (List ℕ)) (c : CutCounts)
+    → (FaceCut.Is c, after) ≡ trianglePlacesAnswer coords corners ends k out →
     let n = length (faceNumbered corners ends k) in
-    3 ≤ n → n ≤ mostCheckedCorners → (checkCutAnswer n (joined (take m after)) ≡ Truth.Is true) ↔ (m + 2 ≡ n)
+    3 ≤ n → n ≤ mostCheckedCorners → (checkCutAnswer n (joined (take (c .triangles) after)) ≡ Truth.Is true) ↔ (c .triangles + 2 ≡ n)
 
 -- 'Whatever is accepted has, taken exactly, the face's own doubled area vector (the sum of a × b over its sides)', for any points of whole
 -- numbers at the places: `at` gives the point at each place

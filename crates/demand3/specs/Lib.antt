@@ -5,3 +5,4 @@ pub mod TurnFaces
 pub mod Turns
 pub mod Local
 pub mod CheckCut
+pub mod Tests

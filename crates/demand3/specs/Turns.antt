@@ -1,5 +1,6 @@
 -- No turn of a cut is a NaN. SCOPE 7 takes a corner where turn × direction is at least 0, and the Rust's first pass skips one where it
--- is below 0: these differ on a NaN only. Of coordinates that pass refusal 2 none arises, and so both rules cut every face alike.
+-- is below 0: these differ on a NaN only. Of coordinates that pass refusal 2 none arises, and so both rules cut every face alike, with as
+-- many tests.
 use mathlib.Core.Path.{_≡_}
 use mathlib.Core.Bool.{Bool, false, not, cond}
 use mathlib.Core.List.{List, []}
@@ -10,12 +11,12 @@ use lib.Ieee.{Float, lt, isNan}
 use Rattle.places.specs.Loops.{firstPlace}
 use Rattle.places.specs.Lists.{Each}
 use Rattle.places.specs.Ring.{before, after}
-use Rattle.places.specs.declared.Found.{Found}
 use Rattle.floats.specs.F64.{_*f_, zero64}
 use Rattle.flat.specs.Points.{Point, verticesOf}
 use Rattle.flat.specs.Steps.{Inside}
 use Rattle.flat.specs.Flat.{cross2Of, pointsOf}
-use Rattle.next_corner.specs.NextCorner.{directionOf, blockedOf, turnsAt, findTurn, orElse}
+use Rattle.next_corner.specs.NextCorner.{directionOf, blockedOf, turnsAt, findTurn, choiceBy}
+use Rattle.next_corner.specs.declared.Choice.{Choice}
 use Rattle.cut.specs.Cut.{Cut, nothing, cutRing, axisFor, directionFor, cutOf}
 use Rattle.cell.specs.Faces.{facesOf}
 use Rattle.cell.specs.Refusals.{numberRefused, refusalOf}
@@ -46,13 +47,13 @@ rustEarAt ps dir k =
     cond (lt (turnAt ps dir k) zero64) false (not blocked)
 
 -- the Rust's choice: where the first pass takes none, its second pass asks for at least 0, as SCOPE 7 does
-unfoldable pub rustFindCorner : List Point → Float → Found
+unfoldable pub rustFindCorner : List Point → Float → Choice
 rustFindCorner ps dir =
     let turn = findTurn ps dir in
-    orElse (firstPlace (rustEarAt ps dir) (length ps)) turn
+    choiceBy (length ps) (firstPlace (rustEarAt ps dir) (length ps)) turn
 
 -- the corner that this choice cuts off a ring of the face, and the face cut by it
-abbrev pub rustNextCornerOf : List Point → List ℕ → List ℕ → Found
+abbrev pub rustNextCornerOf : List Point → List ℕ → List ℕ → Choice
 rustNextCornerOf vs face ring = rustFindCorner (pointsOf vs (axisFor vs face) ring) (directionFor vs face)
 
 unfoldable pub rustCutOf : List Point → List ℕ → Cut

@@ -1,4 +1,4 @@
--- What `check_cut` answers is yes exactly for a cut, since the test of one is; and `triangle_places` answers the count of
+-- What `check_cut` answers is yes exactly for a cut, since the test of one is; and `triangle_places` answers the counts of
 -- `triangles`, since the cut by place is the one cut.
 use mathlib.Core.Path.{_≡_, refl, sym, _∙_, ap}
 use mathlib.Core.Bool.{Bool, true, false, cond}
@@ -11,7 +11,7 @@ use native.Mathlib.Omega.{arith}
 use borrow.Author.Tests.{eqb-true}
 use Rattle.places.specs.Stored.{inThrees}
 use Rattle.flat.specs.Points.{verticesOf}
-use Rattle.cut.proofs.ByPlace.{by-place-long}
+use Rattle.cut.proofs.ByPlace.{by-place-long, by-place-tests}
 use Rattle.cut_check.specs.CutCheck.{IsCut, isCutOf}
 use Rattle.cut_check.proofs.Test.{cut-test}
 use Rattle.refusals.specs.Refusals.{trianglesRefusal, checkRefusal}
@@ -45,11 +45,12 @@ yes-for-cuts n places {r} e = (λ t. go (eqb (checkRefusal n places) 0) refl (sy
     back : (checkRefusal n places ≡ 0) × IsCut n (inThrees places) → r ≡ Truth.Is true
     back p = e ∙ rw (p .0, cut-test n (inThrees places) .1 (p .1))
 
--- ---- the triangles by place are as many as those by vertex number
-pub same-count : (coords : List Float) (corners ends : List ℕ) (k : ℕ) (out : List (List ℕ))
+-- ---- the triangles by place are as many as those by vertex number, and took as many tests
+pub same-counts : (coords : List Float) (corners ends : List ℕ) (k : ℕ) (out : List (List ℕ))
     → trianglePlacesAnswer coords corners ends k out .0 ≡ trianglesAnswer coords corners ends k out .0
 unfolding trianglePlacesAnswer trianglesAnswer
-same-count coords corners ends k out =
+same-counts coords corners ends k out =
     let passes = eqb (trianglesRefusal coords corners ends k (length out)) 0 in
-    let many = by-place-long (verticesOf coords) (faceNumbered corners ends k) in
-    first-answered passes _ _ out ∙ rw (← many) (sym (first-answered passes _ _ out))
+    let vs = verticesOf coords in
+    let face = faceNumbered corners ends k in
+    first-answered passes _ _ out ∙ rw (← by-place-long vs face, ← by-place-tests vs face) (sym (first-answered passes _ _ out))

@@ -18,9 +18,10 @@ use Rattle.cut.specs.Steps.{Shown}
 use Rattle.cut.specs.declared.Counts.{Counts}
 use Rattle.refusals.specs.Refusals.{faceRefusal, roomRefused, trianglesRefusal}
 use Rattle.refusals.proofs.Refusals.{first-decides, room-decides, AskedFace, asked-face, fits}
-use Rattle.geometry.specs.declared.Count.{Count}
+use Rattle.geometry.specs.declared.CutCounts.{CutCounts}
+use Rattle.geometry.specs.declared.FaceCut.{FaceCut}
 use Rattle.geometry.specs.Answers.{front}
-use Rattle.geometry.specs.Cells.{cutAnswer}
+use Rattle.geometry.specs.Cells.{countsOf, cutAnswer}
 use Rattle.geometry.proofs.Answers.{refused, passed}
 
 module _ (coords : List Float) (corners ends : List ℕ) (k : ℕ) {why : ℕ} (found : why ≡ faceRefusal coords corners ends k) where
@@ -38,35 +39,38 @@ module _ (coords : List Float) (corners ends : List ℕ) (k : ℕ) {why : ℕ} (
 
   -- what is answered, by the two tests
   module _ (cut : Cut) (out : List (List ℕ)) where
-    pub not-sound : why ≢ 0 → (Count.Refused why, out) ≡ cutAnswer cut coords corners ends k out
-    not-sound n = refused (first-decides coords corners ends k (length out) found n) (λ why. (Count.Refused why, out)) _ n
+    pub not-sound : why ≢ 0 → (FaceCut.Refused why, out) ≡ cutAnswer cut coords corners ends k out
+    not-sound n = refused (first-decides coords corners ends k (length out) found n) (λ why. (FaceCut.Refused why, out)) _ n
 
     module _ (z : why ≡ 0) {face : List ℕ} (asked : face ≡ getD (facesOf corners ends) k []) {b : Bool}
         (room : b ≡ roomRefused face (length out)) where
       decides : cond b 6 0 ≡ trianglesRefusal coords corners ends k (length out)
       decides = room-decides coords corners ends k (length out) b found z (rw (← asked) room)
 
-      pub no-room : b ≡ true → (Count.Refused 6, out) ≡ cutAnswer cut coords corners ends k out
-      no-room e = refused (rw e at decides) (λ why. (Count.Refused why, out)) _ (λ e. absurd (omega (arith, e)))
+      pub no-room : b ≡ true → (FaceCut.Refused 6, out) ≡ cutAnswer cut coords corners ends k out
+      no-room e = refused (rw e at decides) (λ why. (FaceCut.Refused why, out)) _ (λ e. absurd (omega (arith, e)))
 
       pub is-cut : {r : Counts} {out′ : List (List ℕ)} → b ≡ false → Shown cut r out out′
-          → (Count.Is (r .triangles), out′) ≡ cutAnswer cut coords corners ends k out
-      is-cut e shown = passed (rw e at decides) _ refl (rw (shown .written, shown .count))
+          → (FaceCut.Is (record { triangles = r .triangles; tests = r .tests }), out′) ≡ cutAnswer cut coords corners ends k out
+      is-cut e shown = passed (rw e at decides) _ refl (rw (shown .written, shown .count, shown .tests))
 
--- ---- where a count is answered it is that of the cut, and the triangles of the cut stand at the front of the list
-pub cut-written : (cut : Cut) (coords : List Float) (corners ends : List ℕ) (k : ℕ) (out after : List (List ℕ)) (m : ℕ)
-    → (Count.Is m, after) ≡ cutAnswer cut coords corners ends k out → (m ≡ length (cut .triangles)) × (take m after ≡ cut .triangles)
-cut-written cut coords corners ends k out after m =
+-- ---- where counts are answered they are those of the cut, and the triangles of the cut stand at the front of the list
+pub cut-written : (cut : Cut) (coords : List Float) (corners ends : List ℕ) (k : ℕ) (out after : List (List ℕ)) (c : CutCounts)
+    → (FaceCut.Is c, after) ≡ cutAnswer cut coords corners ends k out → (c ≡ countsOf cut) × (take (c .triangles) after ≡ cut .triangles)
+cut-written cut coords corners ends k out after c =
     let why = trianglesRefusal coords corners ends k (length out) in
-    go (cut .triangles) (eqb why 0) why
+    go (eqb why 0) why
   where
-    go : (ts : List (List ℕ)) (b : Bool) (why : ℕ)
-        → (Count.Is m, after) ≡ cond {A = Count × List (List ℕ)} b (Count.Is (length ts), front ts out) (Count.Refused why, out)
-        → (m ≡ length ts) × (take m after ≡ ts)
-    go ts true why e =
-        let count : Count.Is m ≡ Count.Is (length ts) = ap (λ (x : Count × List (List ℕ)). x .0) e in
-        let many : m ≡ length ts = cc in
-        (many, rw (ap (λ (x : Count × List (List ℕ)). x .1) e) (take-at ts (drop (length ts) out) m (sym many)))
-    go ts false why e =
-        let count : Count.Is m ≡ Count.Refused why = ap (λ (x : Count × List (List ℕ)). x .0) e in
+    go : (b : Bool) (why : ℕ)
+        → (FaceCut.Is c, after) ≡ cond {A = FaceCut × List (List ℕ)} b (FaceCut.Is (countsOf cut), front (cut .triangles) out)
+        (FaceCut.Refused why, out)
+        → (c ≡ countsOf cut) × (take (c .triangles) after ≡ cut .triangles)
+    go true why e =
+        let counts : FaceCut.Is c ≡ FaceCut.Is (countsOf cut) = ap (λ (x : FaceCut × List (List ℕ)). x .0) e in
+        let same : c ≡ countsOf cut = cc in
+        let many = sym (ap (λ (x : CutCounts). x .triangles) same) in
+        let ts = cut .triangles in
+        (same, rw (ap (λ (x : FaceCut × List (List ℕ)). x .1) e) (take-at ts (drop (length ts) out) (c .triangles) many))
+    go false why e =
+        let refusal : FaceCut.Is c ≡ FaceCut.Refused why = ap (λ (x : FaceCut × List (List ℕ)). x .0) e in
         absurd (let z : _≡_ {A = ℕ} 0 1 = cc in omega arith)

@@ -19,7 +19,8 @@ use Rattle.outward.specs.Outward.{outwardCorners}
 use Rattle.refusals.specs.Refusals.{cellRefusal, containsRefusal, phedRefusal, facesRefusal, trianglesRefusal}
 use Rattle.geometry.specs.declared.Number.{Number}
 use Rattle.geometry.specs.declared.Truth.{Truth}
-use Rattle.geometry.specs.declared.Count.{Count}
+use Rattle.geometry.specs.declared.CutCounts.{CutCounts}
+use Rattle.geometry.specs.declared.FaceCut.{FaceCut}
 use Rattle.geometry.specs.declared.Place.{Place}
 use Rattle.geometry.specs.declared.Extent.{Extent}
 use Rattle.geometry.specs.declared.Done.{Done}
@@ -116,18 +117,22 @@ planeOfFaceAnswer coords corners ends k =
     let plane = planeShown (planeOf (cornersOf (verticesOf coords) (faceNumbered corners ends k))) in
     answered (facesRefusal coords corners ends (k ∷ [])) (record { answer = PlaneAnswer.Is; plane = plane }) refusedPlane
 
--- an entry that cuts the face k of a cell: how many triangles the cut has, and the list with them at its front; or the refusal
-abbrev pub cutAnswer : Cut → List Float → List ℕ → List ℕ → ℕ → List (List ℕ) → Count × List (List ℕ)
+-- how many triangles a cut has, and how many tests were made
+abbrev pub countsOf : Cut → CutCounts
+countsOf cut = record { triangles = length (cut .triangles); tests = cut .tests }
+
+-- an entry that cuts the face k of a cell: the counts of the cut, and the list with its triangles at the front; or the refusal
+abbrev pub cutAnswer : Cut → List Float → List ℕ → List ℕ → ℕ → List (List ℕ) → FaceCut × List (List ℕ)
 cutAnswer cut coords corners ends k out =
-    let ts = cut .triangles in
-    answered (trianglesRefusal coords corners ends k (length out)) (Count.Is (length ts), front ts out) (λ why. (Count.Refused why, out))
+    let refusal = trianglesRefusal coords corners ends k (length out) in
+    answered refusal (FaceCut.Is (countsOf cut), front (cut .triangles) out) (λ why. (FaceCut.Refused why, out))
 
 -- triangles: those of the face k, by vertex number
-unfoldable pub trianglesAnswer : List Float → List ℕ → List ℕ → ℕ → List (List ℕ) → Count × List (List ℕ)
+unfoldable pub trianglesAnswer : List Float → List ℕ → List ℕ → ℕ → List (List ℕ) → FaceCut × List (List ℕ)
 trianglesAnswer coords corners ends k out =
     cutAnswer (cutOf (verticesOf coords) (faceNumbered corners ends k)) coords corners ends k out
 
 -- triangle_places: the same by place, each corner of a triangle by its place in the face
-unfoldable pub trianglePlacesAnswer : List Float → List ℕ → List ℕ → ℕ → List (List ℕ) → Count × List (List ℕ)
+unfoldable pub trianglePlacesAnswer : List Float → List ℕ → List ℕ → ℕ → List (List ℕ) → FaceCut × List (List ℕ)
 trianglePlacesAnswer coords corners ends k out =
     cutAnswer (cutByPlace (verticesOf coords) (faceNumbered corners ends k)) coords corners ends k out

@@ -13,6 +13,7 @@ use Rattle.flat.specs.Points.{at}
 use Rattle.geometry.specs.declared.Number.{Number}
 use Rattle.geometry.specs.declared.Truth.{Truth}
 use Rattle.geometry.specs.declared.Count.{Count}
+use Rattle.geometry.specs.declared.FaceCut.{FaceCut}
 use Rattle.geometry.specs.declared.Place.{Place}
 use Rattle.geometry.specs.declared.Extent.{Extent}
 use Rattle.geometry.specs.declared.PlanePlace.{PlanePlace}
@@ -73,6 +74,11 @@ ofTruth (Truth.Refused why) = refused why
 abbrev pub ofCount : Count → Listed
 ofCount (Count.Is n) = values [] (n ∷ [])
 ofCount (Count.Refused why) = refused why
+
+-- triangles, then tests
+abbrev pub ofFaceCut : FaceCut → Listed
+ofFaceCut (FaceCut.Is c) = values [] (c .triangles ∷ c .tests ∷ [])
+ofFaceCut (FaceCut.Refused why) = refused why
 
 abbrev pub ofPlace : Place → Listed
 ofPlace (Place.Is p) = values (p .x ∷ p .y ∷ p .z ∷ []) []
@@ -149,13 +155,13 @@ clippingTold c shown =
 abbrev pub measureTold : Number × List Float × List Float → List Float → ℕ × List Float × List Float × List Float
 measureTold m out = (written (ofNumber (m .0)) out [] .0, written (ofNumber (m .0)) out [] .1, m .1, m .2)
 
--- triangles in the list `out`, as `answer` gives them for that list, and their number in the list `count`: the code, and what then stands
--- in both; where `count` is empty there is no room for a triangle either
-abbrev pub countTold : (List (List ℕ) → Count × List (List ℕ)) → List (List ℕ) → List ℕ → ℕ × List (List ℕ) × List ℕ
+-- triangles in the list `out`, as `answer` gives them for that list, and the two counts in the list `count`: the code, and what then stands
+-- in both; where `count` is too short for two there is no room for a triangle either
+abbrev pub countTold : (List (List ℕ) → FaceCut × List (List ℕ)) → List (List ℕ) → List ℕ → ℕ × List (List ℕ) × List ℕ
 countTold answer out count =
-    let short = ltb (length count) 1 in
+    let short = ltb (length count) 2 in
     let a = answer (cond short [] out) in
-    (written (ofCount (a .0)) [] count .0, cond short out (a .1), written (ofCount (a .0)) [] count .2)
+    (written (ofFaceCut (a .0)) [] count .0, cond short out (a .1), written (ofFaceCut (a .0)) [] count .2)
 
 -- `triangles` under its C name, and `triangle_places`
 abbrev pub trianglesTold : List Float → List ℕ → List ℕ → ℕ → List (List ℕ) → List ℕ → ℕ × List (List ℕ) × List ℕ

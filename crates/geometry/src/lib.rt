@@ -127,6 +127,18 @@ pub enum Clipped {
     Refused(u8),
 }
 
+// How many triangles a face is cut into, and how many turn tests were made: how often turn × direction was tested at a corner.
+pub struct CutCounts {
+    pub triangles: usize,
+    pub tests: usize,
+}
+
+// A face is cut, or the refusal.
+pub enum FaceCut {
+    Is(CutCounts),
+    Refused(u8),
+}
+
 // What the cell report finds out about a cell.
 pub struct Findings {
     pub triangles: usize,
@@ -352,31 +364,35 @@ pub fn plane_of_face(coords: &[f64], corners: &[u32], ends: &[u32], face: u32) -
     }
 }
 
-// The triangles of the face with a number, at the front of out; room is asked for before the cut, even if it stops short.
-// Ruled out: a fan; a count above what was written; a refusal that writes.
+// The triangles of the face with a number, at the front of out; room is asked for before the cut, even if it stops short. The answer says
+// how many, and how many turn tests were made: at most n² + n − 12 for n ≥ 3 corners, and none below.
+// Ruled out: a fan; a count above what was written; a refusal that writes; the tests of one pass alone.
 pub fn triangles(
     coords: &[f64],
     corners: &[u32],
     ends: &[u32],
     face: u32,
     out: &mut [[u32; 3]],
-) -> Count
+) -> FaceCut
     ensures { λ r. ⌜ (r, new out) ≡ trianglesAnswer (old coords) (old corners) (old ends) face (old out) ⌝ }
 {
     let why = refusals::face_refusal(coords, corners, ends, face);
     if why != 0 {
-        return Count::Refused(why);
+        return FaceCut::Refused(why);
     }
     let part = cell::face_by_number(corners, ends, face as usize);
     if refusals::room_refused(part, out.len()) {
-        return Count::Refused(6);
+        return FaceCut::Refused(6);
     }
     let c = cut::cut(coords, part, out);
-    Count::Is(c.triangles)
+    FaceCut::Is(CutCounts {
+        triangles: c.triangles,
+        tests: c.tests,
+    })
 }
 
 // The triangles of the face with a number, each corner by its place in the face, 0 to n - 1, as `check_cut` takes them; room is asked for
-// as by `triangles`.
+// and tests are counted as by `triangles`.
 // Ruled out: the vertex number of a corner; the place of another corner at which the same vertex stands.
 pub fn triangle_places(
     coords: &[f64],
@@ -384,19 +400,22 @@ pub fn triangle_places(
     ends: &[u32],
     face: u32,
     out: &mut [[u32; 3]],
-) -> Count
+) -> FaceCut
     ensures { λ r. ⌜ (r, new out) ≡ trianglePlacesAnswer (old coords) (old corners) (old ends) face (old out) ⌝ }
 {
     let why = refusals::face_refusal(coords, corners, ends, face);
     if why != 0 {
-        return Count::Refused(why);
+        return FaceCut::Refused(why);
     }
     let part = cell::face_by_number(corners, ends, face as usize);
     if refusals::room_refused(part, out.len()) {
-        return Count::Refused(6);
+        return FaceCut::Refused(6);
     }
     let c = cut::by_place::cut_by_place(coords, part, out);
-    Count::Is(c.triangles)
+    FaceCut::Is(CutCounts {
+        triangles: c.triangles,
+        tests: c.tests,
+    })
 }
 
 // Whether triangles over the places of a face of n corners, three places each, are a cut of the face: n - 2 of three different places,

@@ -1,6 +1,6 @@
 -- Which corner of a ring is cut off next. `ps` are the points of the ring's corners in the plane, in order;
 -- `dir` is the direction, +1 or −1.
-use Prim.Native.Nat.{ℕ}
+use Prim.Native.Nat.{ℕ, _+_}
 use mathlib.Core.Bool.{Bool, false, not, _&&_, cond}
 use mathlib.Core.List.{List, []}
 use lib.ListN.{length, getD}
@@ -12,6 +12,7 @@ use Rattle.places.specs.declared.Found.the-variants.{At, Nothing}
 use Rattle.floats.specs.F64.{_*f_, zero64, one64}
 use Rattle.flat.specs.Points.{Point, at}
 use Rattle.flat.specs.Flat.{cross2Of, summedAreaOf}
+use Rattle.next_corner.specs.declared.Choice.{Choice}
 
 -- the direction of a ring: +1 if its summed area is ≥ 0, else −1
 unfoldable pub directionOf : List Point → Float
@@ -61,8 +62,23 @@ abbrev pub orElse : Found → Found → Found
 orElse (At k) g = At k
 orElse Nothing g = g
 
--- failing that, none
-unfoldable pub findCorner : List Point → Float → Found
+-- ---- the choice: the corner that is cut off, if there is one, and how many turn tests were made, one for each corner that a pass tries
+-- of a ring of m corners a pass tries each up to and including the one that it takes, and all m where it takes none
+abbrev pub triedOf : ℕ → Found → ℕ
+triedOf m (At k) = k + 1
+triedOf m Nothing = m
+
+-- both passes are counted, and the second is made where the first takes none
+abbrev pub testsOf : ℕ → Found → Found → ℕ
+testsOf m (At k) turn = triedOf m (At k)
+testsOf m Nothing turn = triedOf m Nothing + triedOf m turn
+
+-- the choice at a ring of m corners, by what the two passes take
+abbrev pub choiceBy : ℕ → Found → Found → Choice
+choiceBy m ear turn = record { corner = orElse ear turn; tests = testsOf m ear turn }
+
+-- the choice at a ring: the first ear, failing that the first corner that turns, failing that none
+unfoldable pub findCorner : List Point → Float → Choice
 findCorner ps dir =
     let turn = findTurn ps dir in
-    orElse (findEar ps dir) turn
+    choiceBy (length ps) (findEar ps dir) turn

@@ -1,11 +1,18 @@
 // The choice of the corner that is cut off next.
 ghost use mathlib.Core.Path.{_≡_};
-ghost use Prim.Native.Nat.{ℕ, _<_};
+ghost use Prim.Native.Nat.{_<_, _≤_};
 ghost use lib.ListN.{length};
 ghost use Rattle.places.specs.Lent.{old};
+ghost use Rattle.places.specs.Limits.{mostCorners};
 ghost use Rattle.flat.specs.Flat.{summedAreaOf};
 ghost use Rattle.next_corner.specs.NextCorner.{directionOf, turnsOf, sameOf, strictlyIn, blocksOf, blockedOf};
-ghost use Rattle.next_corner.specs.NextCorner.{turnsAt, earAt, findEar, findTurn, findCorner};
+ghost use Rattle.next_corner.specs.NextCorner.{turnsAt, earAt, findEar, findTurn, triedOf, findCorner};
+
+// The corner that is cut off next, if any, and how many turn tests were made: how often turn × direction was tested at a corner.
+pub struct Choice {
+    pub corner: places::Found,
+    pub tests: usize,
+}
 
 // The summed area of a ring of points, and the direction in which it runs.
 fn summed_area(ps: &[[f64; 2]]) -> f64
@@ -138,12 +145,35 @@ fn find_turn(ps: &[[f64; 2]], dir: f64) -> places::Found
     places::Found::Nothing
 }
 
-pub fn find_corner(ps: &[[f64; 2]], dir: f64) -> places::Found
+// How many of n corners a pass tries: each up to and including the one that it takes, and all where it takes none.
+fn tried(n: usize, taken: places::Found) -> usize
+    requires { ⌜ triedOf n taken ≤ n ⌝ }
+    ensures { λ r. ⌜ r ≡ triedOf n taken ⌝ }
+{
+    match taken {
+        places::Found::At(k) => k + 1,
+        places::Found::Nothing => n,
+    }
+}
+
+// A corner that is tried is tested once, whether or not it turns out to be blocked, so the count asks nothing of the passes.
+pub fn find_corner(ps: &[[f64; 2]], dir: f64) -> Choice
+    requires { ⌜ length (now ps) ≤ mostCorners ⌝ }
     ensures { λ r. ⌜ r ≡ findCorner (old ps) dir ⌝ }
 {
-    let f = find_ear(ps, dir);
-    match f {
-        places::Found::At(k) => places::Found::At(k),
-        places::Found::Nothing => find_turn(ps, dir),
+    let n = ps.len();
+    let ear = find_ear(ps, dir);
+    let first = tried(n, ear);
+    if let places::Found::At(k) = ear {
+        return Choice {
+            corner: places::Found::At(k),
+            tests: first,
+        };
+    }
+    let turn = find_turn(ps, dir);
+    let second = tried(n, turn);
+    Choice {
+        corner: turn,
+        tests: first + second,
     }
 }

@@ -4,3 +4,4 @@ pub mod TurnFaces
 pub mod Local
 pub mod Area
 pub mod CheckCut
+pub mod Tests

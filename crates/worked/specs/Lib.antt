@@ -3,3 +3,4 @@ pub mod TurnFaces
 pub mod Local
 pub mod Area
 pub mod CheckCut
+pub mod Tests

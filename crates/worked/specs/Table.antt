@@ -33,8 +33,8 @@ pub data Question : Type 0 where
   overlapping : List Point → List Point → Question
 
 pub data Answer : Type 0 where
-  -- the triangles in order, and the ring that is left
-  gives : List (List ℕ) → List ℕ → Answer
+  -- the triangles in order, the ring that is left, and how many tests were made
+  gives : List (List ℕ) → List ℕ → ℕ → Answer
   contained : Bool → Answer
   -- what is left, the first work list being false and the second true
   leaves : Outcome → Answer
@@ -54,7 +54,9 @@ hexMarked =
 
 -- what the definitions answer
 abbrev pub answerOf : Question → Answer
-answerOf (cutting coords face) = gives (cutOf (verticesOf coords) face .triangles) (cutOf (verticesOf coords) face .left)
+answerOf (cutting coords face) =
+    let cut = cutOf (verticesOf coords) face in
+    gives (cut .triangles) (cut .left) (cut .tests)
 answerOf (containing p) = contained (containsOf (verticesOf cube) p (facesOf hexCorners hexEnds))
 answerOf (containingMarked p) = contained (phedContainsOf (verticesOf cube) p hexMarked)
 answerOf (clipping plane eps ps) = leaves (clipFaceOf 8 eps (plane ∷ []) ps)
@@ -127,12 +129,12 @@ row q a = record { question = q; answer = a }
 abbrev pub table : List Row
 table =
     -- face [0,3,2,1] of the cube
-    row (cutting cube (0 ∷ 3 ∷ 2 ∷ 1 ∷ [])) (gives (tri 1 0 3 ∷ tri 3 2 1 ∷ []) [])
-    -- the seven corners: three triangles, then stop with a ring of four
-    ∷ row (cutting seven (0 ∷ 1 ∷ 2 ∷ 3 ∷ 4 ∷ 5 ∷ 6 ∷ [])) (gives (tri 6 0 1 ∷ tri 6 1 2 ∷ tri 2 3 4 ∷ []) (2 ∷ 4 ∷ 5 ∷ 6 ∷ []))
+    row (cutting cube (0 ∷ 3 ∷ 2 ∷ 1 ∷ [])) (gives (tri 1 0 3 ∷ tri 3 2 1 ∷ []) [] 1)
+    -- the seven corners: three triangles, then stop with a ring of four, after 12 tests
+    ∷ row (cutting seven (0 ∷ 1 ∷ 2 ∷ 3 ∷ 4 ∷ 5 ∷ 6 ∷ [])) (gives (tri 6 0 1 ∷ tri 6 1 2 ∷ tri 2 3 4 ∷ []) (2 ∷ 4 ∷ 5 ∷ 6 ∷ []) 12)
     -- two corners, and three
-    ∷ row (cutting cube (0 ∷ 1 ∷ [])) (gives [] [])
-    ∷ row (cutting cube (4 ∷ 5 ∷ 6 ∷ [])) (gives (tri 4 5 6 ∷ []) [])
+    ∷ row (cutting cube (0 ∷ 1 ∷ [])) (gives [] [] 0)
+    ∷ row (cutting cube (4 ∷ 5 ∷ 6 ∷ [])) (gives (tri 4 5 6 ∷ []) [] 0)
     -- the cube: x = 0, y = z = ½; x = 1; y = 1, x = z = ½
     ∷ row (containing (zero64 ∷ half ∷ half ∷ [])) (contained true)
     ∷ row (containing (one64 ∷ half ∷ half ∷ [])) (contained false)

@@ -9,8 +9,10 @@ use crate::bench::Table;
 use crate::bench_lists::in_space;
 use crate::cells::{self, Cell};
 use crate::compare_cells::is_closed;
+use crate::cut::COUNTS;
 use crate::cut_judge::Judge;
 use crate::limits::FACE_END;
+use crate::most_tests::of_most_tests;
 use crate::{cut_lists, faces, ours};
 
 /// Corners of the faces that are cut.
@@ -218,29 +220,38 @@ fn add_planes(table: &mut Table) {
     }
 }
 
-/// A face as the only one of a cell. The Rust does not cut by place, so beside that stands our own
-/// cut by vertex.
+/// The cut of a face with these corners, as the only one of a cell.
+fn add_cut(table: &mut Table, row: &'static str, points: Vec<[f64; 3]>) {
+    let size = points.len();
+    let places: Vec<usize> = (0..size).collect();
+    let corners: Vec<u32> = (0..size as u32).collect();
+    let cell = Cell::of_one_face(points.as_flattened(), &corners);
+    let mut out = vec![[0; 3]; size - 2];
+    let mut count = [0; COUNTS];
+    table.add_sized(
+        row,
+        size,
+        || ours::triangles(black_box(&cell), 0, &mut out, &mut count),
+        || rust::ear_clip_triangles(black_box(&points), &places),
+    );
+}
+
+/// A face as the only one of a cell: a regular polygon, whose cut makes one test a ring, and a face
+/// whose cut makes as many tests as there may be. The Rust does not cut by place, so beside that
+/// stands our own cut by vertex.
 fn add_cuts(table: &mut Table) {
     for size in FACE_SIZES {
-        let points = in_space(&faces::regular(size));
-        let places: Vec<usize> = (0..size).collect();
-        let corners: Vec<u32> = (0..size as u32).collect();
-        let cell = Cell::of_one_face(points.as_flattened(), &corners);
-        let mut out = vec![[0; 3]; size - 2];
-        let mut count = [0];
-        table.add_sized(
-            "triangles",
-            size,
-            || ours::triangles(black_box(&cell), 0, &mut out, &mut count),
-            || rust::ear_clip_triangles(black_box(&points), &places),
-        );
+        add_cut(table, "triangles", in_space(&faces::regular(size)));
+    }
+    for size in FACE_SIZES {
+        add_cut(table, "triangles, most tests", of_most_tests(size));
     }
     for size in FACE_SIZES {
         let points = in_space(&faces::regular(size));
         let corners: Vec<u32> = (0..size as u32).collect();
         let cell = Cell::of_one_face(points.as_flattened(), &corners);
         let [mut by_place, mut by_vertex] = [(); 2].map(|()| vec![[0; 3]; size - 2]);
-        let [mut count, mut other_count] = [[0]; 2];
+        let [mut count, mut other_count] = [[0; COUNTS]; 2];
         table.add_beside(
             "triangle_places",
             size,

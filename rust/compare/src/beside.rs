@@ -71,7 +71,7 @@ impl Beside {
         }
     }
 
-    /// Asks both builds about a pair of some kind, and gives the ruled one's overlap.
+    /// Asks `plain` and `ruled` about a pair of some kind, and gives the overlap by `ruled`.
     pub fn add(&mut self, kind: Kind, cells: &[Cell; 2]) -> f64 {
         let [first, second] = cells.each_ref().map(Cell::for_the_rust);
         for cell in [first, second] {

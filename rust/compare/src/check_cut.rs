@@ -8,7 +8,7 @@ use crate::bench_lists::in_space;
 use crate::calls::{BEYOND, Calls, Lent, departure};
 use crate::cells::{self, Cell};
 use crate::comparison::{Compared, Different, ask};
-use crate::cut::by_place;
+use crate::cut::{COUNTS, Cut, FaceCut, by_place};
 use crate::cut_judge::{FEWEST_CORNERS, Judge, MOST_CHECKED_CORNERS};
 use crate::cut_lists::{self, Made, Sent};
 use crate::limits::MOST_VERTICES;
@@ -296,29 +296,22 @@ fn ask_about_own_cut(
     })
 }
 
-/// Cuts a face by place, which must give the Rust's triangles and change nothing else, and asks
-/// about them. The second teller and the port must both accept them where the face has 3 to 256
-/// corners and is fully cut, and both say no where the cut stops short.
-fn own_cut(
-    calls: &mut Calls,
-    judge: &mut Judge,
-    cell: &Cell,
-    face: u32,
-    cut: impl Fn(&Cell, u32, &mut [[u32; 3]], &mut [usize]) -> u8,
-) {
+/// Cuts a face by place, which must give the Rust's triangles with both counts and change nothing
+/// else, and asks about them. The second teller and the port must both accept them where the face
+/// has 3 to 256 corners and is fully cut, and both say no where the cut stops short.
+fn own_cut(calls: &mut Calls, judge: &mut Judge, cell: &Cell, face: u32, cut: Cut) {
     // While an input is made smaller its cell may be refused, and has no face then.
-    let Ok(triangles) = by_place(cell, face) else {
+    let Ok(expected) = by_place(cell, face) else {
         return;
     };
     let corners = cell.face(face).len() as u32;
     let room = corners.saturating_sub(2) as usize;
-    let count = triangles.len();
-    let sent = Sent::new(corners, &triangles);
-    let expected = Ok((triangles, vec![count]));
+    let count = expected.triangles.len();
+    let sent = Sent::new(corners, &expected.triangles);
     calls.lent_two(
         "triangle_places",
-        [room, 1],
-        &expected,
+        [room, COUNTS],
+        &Ok(FaceCut::written(expected)),
         &mut |out, count| cut(cell, face, out, count),
     );
     let judged = judge.is_cut(corners, &sent.places);
@@ -530,10 +523,10 @@ mod tests {
     }
 
     /// The smallest face found on which a wrong cut by place is told.
-    fn smallest_own(cut: impl Fn(&Cell, u32, &mut [[u32; 3]], &mut [usize]) -> u8) -> Cell {
+    fn smallest_own(cut: Cut) -> Cell {
         let any = |random: &mut Random| faces::any_with_a_vertex(random, 64).cell;
         smallest_of(any, |calls, cell: &Cell, _| {
-            own_cut(calls, &mut Judge::default(), cell, 0, &cut);
+            own_cut(calls, &mut Judge::default(), cell, 0, cut);
         })
     }
 
@@ -551,6 +544,18 @@ mod tests {
             let corners = cell.face(face).len() as u32;
             if answer == 0 && count[0] + 2 == corners as usize {
                 out.copy_from_slice(&cut_lists::fan(corners));
+            }
+            answer
+        });
+        assert_eq!(small.corners.len(), 4);
+    }
+
+    #[test]
+    fn a_cut_that_tells_no_test_shrinks_to_four_corners() {
+        let small = smallest_own(|cell, face, out, count| {
+            let answer = ours::triangle_places(cell, face, out, count);
+            if answer == 0 {
+                count[1] = 0;
             }
             answer
         });

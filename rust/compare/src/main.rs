@@ -27,6 +27,7 @@ mod local;
 mod local_judge;
 mod local_lists;
 mod marked;
+mod most_tests;
 mod ours;
 mod outlines;
 mod overlap;
@@ -82,6 +83,11 @@ const COMMANDS: &[(&str, Command, &str)] = &[
         "check-cells",
         check_cells::run,
         "[N] [SEED]      the random cells and the damaged copies themselves",
+    ),
+    (
+        "most-tests",
+        most_tests::run,
+        "[N] [SEED]      the faces whose cutting takes the most tests",
     ),
     (
         "bench",

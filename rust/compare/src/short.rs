@@ -8,6 +8,7 @@ use crate::clip::{by_edges, by_planes};
 use crate::clips::Case;
 use crate::compare_cells::{Question, compare_question};
 use crate::comparison::{Compared, ask};
+use crate::cut::{compare_every_length, compare_face};
 use crate::cut_judge::Judge;
 use crate::cut_lists::Sent;
 use crate::leaves::{LEAVES, SPECIAL};
@@ -58,6 +59,8 @@ pub fn compare(calls: &mut Calls, times: u64, seed: u64) -> Compared {
         lists_to_move,
         corners_and_ends,
         single_faces,
+        faces_to_cut,
+        lists_for_triangles,
         faces_of_a_tetrahedron,
         faces_to_turn,
         corners_to_turn,
@@ -170,6 +173,58 @@ fn single_faces(calls: &mut Calls, random: &mut Random) -> Compared {
     for corners in lists_up_to(6, &[0, 1, 2, 3, 4]) {
         let cell = Cell::of_one_face(points.as_flattened(), &corners);
         ask_cell(calls, cell, &[], random)?;
+    }
+    Ok(())
+}
+
+/// The seven corners of SCOPE 16, of which a ring of four is left.
+const SEVEN: [[f64; 3]; 7] = [
+    [0.0, 0.0, 0.0],
+    [10.0, 0.0, 0.0],
+    [0.0, 10.0, 0.0],
+    [0.0, 0.0, 0.0],
+    [0.0, -1.0, 0.0],
+    [-1.0, -1.0, 0.0],
+    [-1.0, 0.0, 0.0],
+];
+
+/// Seven corners that are cut in full, though their first ring has no ear.
+const WITHOUT_EAR: [[f64; 3]; 7] = [
+    [1.0, 1.0, 0.0],
+    [3.0, 0.0, 0.0],
+    [2.0, 1.0, 0.0],
+    [0.0, 0.0, 0.0],
+    [1.0, 3.0, 0.0],
+    [3.0, 1.0, 0.0],
+    [3.0, 3.0, 0.0],
+];
+
+/// Those corners in every order: some faces need a second pass over a ring, and some stop short.
+fn faces_to_cut(calls: &mut Calls, random: &mut Random) -> Compared {
+    let orders = lists_of(7, &[0, 1, 2, 3, 4, 5, 6]);
+    for corners in orders.filter(|corners| !holds_a_vertex_twice(corners)) {
+        for points in [SEVEN, WITHOUT_EAR] {
+            let cell = Cell::of_one_face(points.as_flattened(), &corners);
+            ask(calls, &cell, random, |calls, cell, random| {
+                compare_face(calls, cell, 0, random);
+            })?;
+        }
+    }
+    Ok(())
+}
+
+/// Lists of every length for the triangles and the counts of a face, and of one that is not there:
+/// faces of up to four corners, with a vertex that is not there as well, and the seven corners.
+fn lists_for_triangles(calls: &mut Calls, random: &mut Random) -> Compared {
+    let small = lists_up_to(4, &[0, 1, 2, 3, 4]);
+    let small = small.map(|corners| Cell::of_one_face(CORNER.as_flattened(), &corners));
+    let seven = Cell::of_one_face(SEVEN.as_flattened(), &[0, 1, 2, 3, 4, 5, 6]);
+    for cell in small.chain([seven]) {
+        ask(calls, &cell, random, |calls, cell, _| {
+            for face in [0, 1, u32::MAX] {
+                compare_every_length(calls, cell, face);
+            }
+        })?;
     }
     Ok(())
 }

@@ -185,7 +185,7 @@ fn groups(cell: Cell<'_>) -> Vec<usize> {
 fn short_faces(cell: Cell<'_>) -> Result<Vec<ShortFace>, Refusal> {
     let mut short = Vec::new();
     for (face, corners) in cell.faces().enumerate() {
-        let triangles = cell.triangles(face)?;
+        let triangles = cell.triangles(face)?.triangles;
         if triangles.len() + 2 < corners.len() {
             let left = ring_left(corners, &triangles);
             short.push(ShortFace { face, triangles: triangles.len(), left });

@@ -57,6 +57,19 @@ pub struct Description {
     pub shape: Shape,
 }
 
+/// A face cut into triangles, and how many tests that took.
+#[derive(Clone, Debug, PartialEq, Eq)]
+pub struct FaceCut {
+    /// The triangles in the order of the cut: n - 2 of them for n >= 3 corners, or fewer where the
+    /// cut stops short.
+    pub triangles: Vec<[u32; 3]>,
+    /// How many tests the cut made. A test asks whether the turn at a corner of the ring that is
+    /// left, times the direction of the face, is at least 0; a ring of three is not tested. There
+    /// are at most n² + n - 12 tests for n >= 3 corners, and none below; one costs at most one walk
+    /// over the ring, of at most n points.
+    pub tests: usize,
+}
+
 /// All that the cell report says of a cell.
 #[derive(Clone, Copy, Debug, PartialEq)]
 pub struct Survey {
@@ -98,7 +111,7 @@ pub struct Survey {
 /// assert_eq!(cube.bounds()?, [[0.0; 3], [1.0; 3]]);
 /// assert!(cube.closed()?);
 /// assert!(cube.contains([0.5, 0.5, 0.5])?);
-/// assert_eq!(cube.triangles(0)?, [[1, 0, 3], [3, 2, 1]]);
+/// assert_eq!(cube.triangles(0)?.triangles, [[1, 0, 3], [3, 2, 1]]);
 /// # Ok::<(), wegrusamt::Refusal>(())
 /// ```
 #[derive(Clone, Copy, Debug, PartialEq)]
@@ -231,15 +244,29 @@ impl<'a> Cell<'a> {
         Refusal::answer(number, description)
     }
 
-    /// The triangles into which a face is cut, as numbers of points: n - 2 of them for n >= 3
-    /// corners, or fewer where the cut stops short.
-    pub fn triangles(&self, face: usize) -> Result<Vec<[u32; 3]>, Refusal> {
+    /// The triangles into which a face is cut, as numbers of points, and how many tests that took.
+    ///
+    /// ```
+    /// use wegrusamt::Cell;
+    ///
+    /// let outline = [[0, 0], [10, 0], [0, 10], [0, 0], [0, -1], [-1, -1], [-1, 0]];
+    /// let points = outline.map(|[x, y]| [f64::from(x), f64::from(y), 0.0]);
+    /// let cell = Cell::new(&points, &[0, 1, 2, 3, 4, 5, 6], &[7]);
+    ///
+    /// // The cut stops short of five triangles, after the twelfth test.
+    /// let cut = cell.triangles(0)?;
+    /// assert_eq!(cut.triangles, [[6, 0, 1], [6, 1, 2], [2, 3, 4]]);
+    /// assert_eq!(cut.tests, 12);
+    /// # Ok::<(), wegrusamt::Refusal>(())
+    /// ```
+    pub fn triangles(&self, face: usize) -> Result<FaceCut, Refusal> {
         self.cut_by(c::triangles, face)
     }
 
     /// The same triangles by place: each number is the corner's place in the face's own corners,
     /// from 0 to n - 1, and not the number of its point. Looked up there they are those of
-    /// [`Cell::triangles`]. [`check_cut`](crate::check_cut) takes triangles by place.
+    /// [`Cell::triangles`], and the tests are as many. [`check_cut`](crate::check_cut) takes
+    /// triangles by place.
     ///
     /// ```
     /// use wegrusamt::{Cell, check_cut};
@@ -247,22 +274,22 @@ impl<'a> Cell<'a> {
     /// let points = [[0.0; 3], [1.0, 0.0, 0.0], [1.0, 1.0, 0.0], [0.0, 1.0, 0.0]];
     /// let square = Cell::new(&points, &[3, 2, 1, 0], &[4]);
     ///
-    /// let places = square.triangle_places(0)?;
+    /// let places = square.triangle_places(0)?.triangles;
     /// assert_eq!(places, [[3, 0, 1], [1, 2, 3]]);
-    /// assert_eq!(square.triangles(0)?, [[0, 3, 2], [2, 1, 0]]);
+    /// assert_eq!(square.triangles(0)?.triangles, [[0, 3, 2], [2, 1, 0]]);
     /// assert!(check_cut(4, &places)?);
     /// # Ok::<(), wegrusamt::Refusal>(())
     /// ```
-    pub fn triangle_places(&self, face: usize) -> Result<Vec<[u32; 3]>, Refusal> {
+    pub fn triangle_places(&self, face: usize) -> Result<FaceCut, Refusal> {
         self.cut_by(c::triangle_places, face)
     }
 
-    /// What an entry that cuts a face writes, in a list that has room for it.
-    fn cut_by(&self, cut: Cut, face: usize) -> Result<Vec<[u32; 3]>, Refusal> {
+    /// What an entry that cuts a face writes, in lists that have room for it.
+    fn cut_by(&self, cut: Cut, face: usize) -> Result<FaceCut, Refusal> {
         // Where the ends are bad this is not the face, but then the cell is refused.
         let most = self.faces().nth(face).map_or(0, <[u32]>::len);
         let mut out = vec![[0; 3]; most.saturating_sub(2)];
-        let mut count = [0];
+        let mut count = [0; 2];
         let number = cut(
             self.coords(),
             self.corners,
@@ -271,8 +298,13 @@ impl<'a> Cell<'a> {
             &mut out,
             &mut count,
         );
-        out.truncate(count[0]);
-        Refusal::answer(number, out)
+        let [triangles, tests] = count;
+        out.truncate(triangles);
+        let cut = FaceCut {
+            triangles: out,
+            tests,
+        };
+        Refusal::answer(number, cut)
     }
 
     /// All that the cell report says of the cell and of at most 256 query points.
@@ -456,7 +488,7 @@ impl<'a> Cell<'a> {
     }
 }
 
-/// An entry that cuts a face: the lists of the cell, the face, then the triangles and their count.
+/// An entry that cuts a face: the lists of the cell, the face, then the triangles, and both counts.
 type Cut = fn(&[f64], &[u32], &[u32], u32, &mut [[u32; 3]], &mut [usize]) -> u8;
 
 /// A face's number as the C names take it. One that does not fit becomes the largest, which is

@@ -36,7 +36,7 @@ pub mod shapes;
 pub mod space;
 mod work;
 
-pub use cell::{Cell, Description, FACE_END, Plane, Shape, Survey};
+pub use cell::{Cell, Description, FACE_END, FaceCut, Plane, Shape, Survey};
 pub use cell::{into_ccw, point_in_phed, turn_faces};
 pub use cell_buf::CellBuf;
 pub use cut::check_cut;

@@ -1,8 +1,10 @@
 //! The rows of SCOPE 16, the turning of backward faces (SCOPE 14), the move to a local origin
-//! (SCOPE 19), cuts by place and the check of cuts, and every refusal, asked through the crate.
+//! (SCOPE 19), the tests of a cut, cuts by place and the check of cuts, and every refusal, asked
+//! through the crate.
 
-use wegrusamt::{Cell, CellBuf, Plane, Refusal, Shape, floats, into_ccw, planar, point_in_phed};
-use wegrusamt::{FACE_END, WORK_NUMBERS, check_cut, leaves, shapes, space, turn_faces};
+use wegrusamt::{Cell, CellBuf, FACE_END, FaceCut, Plane, Refusal, Shape, WORK_NUMBERS};
+use wegrusamt::{check_cut, into_ccw, point_in_phed, turn_faces};
+use wegrusamt::{floats, leaves, planar, shapes, space};
 
 const CUBE: [[f64; 3]; 8] = [
     [0.0, 0.0, 0.0],
@@ -31,6 +33,12 @@ const WEST_OF_HALF: Plane = Plane {
 /// The unit cube, moved along x.
 fn cube_at(x: f64) -> CellBuf {
     CellBuf::from_faces(CUBE.map(|[a, b, c]| [a + x, b, c]), FACES)
+}
+
+/// What a cut answers: these triangles, after so many tests.
+fn cut_in(tests: usize, triangles: &[[u32; 3]]) -> Result<FaceCut, Refusal> {
+    let triangles = triangles.to_vec();
+    Ok(FaceCut { triangles, tests })
 }
 
 /// What each question to a cell answers, where it is refused.
@@ -75,8 +83,8 @@ fn the_cube_is_measured() {
     assert_eq!(cube.bounds(), Ok([[0.0; 3], [1.0; 3]]));
     assert_eq!(cube.scale(), Ok(1.0));
     assert_eq!(cube.closed(), Ok(true));
-    assert_eq!(cube.triangles(0), Ok(vec![[1, 0, 3], [3, 2, 1]]));
-    assert_eq!(cube.triangle_places(0), Ok(vec![[3, 0, 1], [1, 2, 3]]));
+    assert_eq!(cube.triangles(0), cut_in(1, &[[1, 0, 3], [3, 2, 1]]));
+    assert_eq!(cube.triangle_places(0), cut_in(1, &[[3, 0, 1], [1, 2, 3]]));
     assert_eq!(cube.contains([0.0, 0.5, 0.5]), Ok(true));
     assert_eq!(cube.contains([1.0, 0.5, 0.5]), Ok(false));
     assert_eq!(cube.contains([0.5, 1.0, 0.5]), Ok(false));
@@ -102,13 +110,58 @@ fn a_cut_that_stops_short_has_fewer_triangles() {
     let outline = [[0, 0], [10, 0], [0, 10], [0, 0], [0, -1], [-1, -1], [-1, 0]];
     let points = outline.map(|[x, y]| [f64::from(x), f64::from(y), 0.0]);
     let cell = CellBuf::from_faces(points, [[0, 1, 2, 3, 4, 5, 6]]);
-    let triangles = cell.as_cell().triangles(0).unwrap();
-    assert_eq!(triangles, [[6, 0, 1], [6, 1, 2], [2, 3, 4]]);
+    let triangles = [[6, 0, 1], [6, 1, 2], [2, 3, 4]];
+    // Of the tests eight are made at the ring of four that is left, in two passes.
+    assert_eq!(cell.as_cell().triangles(0), cut_in(12, &triangles));
+    assert_eq!(cell.as_cell().triangle_places(0), cut_in(12, &triangles));
     assert_eq!(cell.as_cell().survey(&[]).unwrap().short, 1);
     // A cut that stops short is not a whole one.
-    let places = cell.as_cell().triangle_places(0).unwrap();
-    assert_eq!(places, triangles);
-    assert_eq!(check_cut(7, &places), Ok(false));
+    assert_eq!(check_cut(7, &triangles), Ok(false));
+}
+
+#[test]
+fn no_test_is_made_of_up_to_three_corners() {
+    let faces: [&[u32]; 5] = [&[], &[5], &[1, 0], &[4, 6, 1], &[2, 2, 2]];
+    let buf = CellBuf::from_faces(CUBE, faces);
+    let cell = buf.as_cell();
+    for face in 0..3 {
+        assert_eq!(cell.triangles(face), cut_in(0, &[]));
+        assert_eq!(cell.triangle_places(face), cut_in(0, &[]));
+    }
+    assert_eq!(cell.triangles(3), cut_in(0, &[[4, 6, 1]]));
+    assert_eq!(cell.triangles(4), cut_in(0, &[[2, 2, 2]]));
+    for face in 3..5 {
+        assert_eq!(cell.triangle_places(face), cut_in(0, &[[0, 1, 2]]));
+    }
+}
+
+/// The face of a thin box far from the origin gives no triangle: no corner stands its test, in either
+/// pass.
+#[test]
+fn a_face_can_take_as_many_tests_as_there_may_be() {
+    let foot = [[0.0, 0.0], [0.05, 0.0], [0.05, 0.25], [0.0, 0.25]];
+    let points = foot.map(|[x, y]| [8588590.0 + x, 8529546.0 + y, 2969498.0]);
+    let cell = Cell::new(&points, &[0, 3, 2, 1], &[4]);
+    assert_eq!(cell.triangles(0), cut_in(4 * 4 + 4 - 12, &[]));
+    assert_eq!(cell.triangle_places(0), cut_in(4 * 4 + 4 - 12, &[]));
+}
+
+/// The corners of a convex face are taken one after the other, each at its ring's first test.
+#[test]
+fn a_convex_face_takes_one_test_a_ring() {
+    for corners in [4, 5, 16, 17, 64, 256] {
+        let angle = |k: usize| std::f64::consts::TAU * k as f64 / corners as f64;
+        let points: Vec<[f64; 3]> = (0..corners)
+            .map(|k| [angle(k).cos(), angle(k).sin(), 0.0])
+            .collect();
+        let places: Vec<u32> = (0..corners as u32).collect();
+        let ends = [corners as u32];
+        let cell = Cell::new(&points, &places, &ends);
+        let cut = cell.triangles(0).unwrap();
+        assert_eq!(cut.triangles.len(), corners - 2);
+        assert_eq!(cut.tests, corners - 3);
+        assert_eq!(cell.triangle_places(0), Ok(cut));
+    }
 }
 
 /// The triangles by place, looked up in the face.
@@ -122,24 +175,21 @@ fn a_cut_is_told_by_place() {
     let buf = cube_at(0.0);
     let cube = buf.as_cell();
     for (number, face) in cube.faces().enumerate() {
-        let places = cube.triangle_places(number).unwrap();
-        assert_eq!(looked_up(face, &places), cube.triangles(number).unwrap());
-        assert_eq!(check_cut(face.len(), &places), Ok(true));
+        let by_place = cube.triangle_places(number).unwrap();
+        let by_vertex = cube.triangles(number).unwrap();
+        assert_eq!(looked_up(face, &by_place.triangles), by_vertex.triangles);
+        assert_eq!((by_place.tests, by_vertex.tests), (1, 1));
+        assert_eq!(check_cut(face.len(), &by_place.triangles), Ok(true));
     }
     // Two corners of a face share a vertex, and each has its own place.
     let face = [0, 1, 2, 0, 3];
     let buf = CellBuf::from_faces(CUBE, [face]);
-    let places = buf.as_cell().triangle_places(0).unwrap();
-    let triangles = buf.as_cell().triangles(0).unwrap();
-    assert_eq!(looked_up(&face, &places), triangles);
-    assert_eq!(check_cut(5, &places), Ok(true));
-    assert_eq!(check_cut(5, &triangles), Ok(false));
-    // Faces under 3 corners have no triangle.
-    let thin: [&[u32]; 3] = [&[], &[5], &[1, 0]];
-    let buf = CellBuf::from_faces(CUBE, thin);
-    for face in 0..3 {
-        assert_eq!(buf.as_cell().triangle_places(face), Ok(vec![]));
-    }
+    let by_place = buf.as_cell().triangle_places(0).unwrap();
+    let by_vertex = buf.as_cell().triangles(0).unwrap();
+    assert_eq!(looked_up(&face, &by_place.triangles), by_vertex.triangles);
+    assert_eq!(by_place.tests, by_vertex.tests);
+    assert_eq!(check_cut(5, &by_place.triangles), Ok(true));
+    assert_eq!(check_cut(5, &by_vertex.triangles), Ok(false));
 }
 
 /// A face of so many corners, cut from its corner 0 to all others.

@@ -6,12 +6,15 @@ use Rattle.cut.proofs.cut.Statement.{statement}
 use Rattle.cut.proofs.cut.Tie as tie
 
 nothing-cut : tie.Need-returns
-nothing-cut c = small-shown _ _ _ (c .if1 .taken)
+nothing-cut c =
+    let small : tie.Then1 = search in
+    rw (c .counted .ensures) (small-shown _ _ _ (small .if1 .taken))
 
 pub cut-spec : {M : Type 1} → statement M
 cut-spec =
     tie.close
     (tie.spec
+    (λ c κs. search needs)
     nothing-cut
     (λ c κs. search needs) (λ c. search needs) (λ c. search needs) (λ c κs. search needs) (λ c. search needs) (λ c. search needs)
     (λ c κs. search needs) (λ c. search needs) (λ c. search needs))

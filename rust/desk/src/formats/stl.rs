@@ -454,13 +454,13 @@ fn cut_face(piece: &Piece, face: usize, corners: usize) -> Result<Vec<[u32; 3]>,
     if corners < 3 {
         return Err(format!("face {number} has fewer than the three corners of a facet"));
     }
-    let triangles = piece.cell.as_cell().triangles(face);
-    let triangles = triangles.map_err(|refusal| format!("face {number} is not cut into triangles: {refusal}"))?;
-    let (found, wanted) = (triangles.len(), corners - 2);
+    let cut = piece.cell.as_cell().triangles(face);
+    let cut = cut.map_err(|refusal| format!("face {number} is not cut into triangles: {refusal}"))?;
+    let (found, wanted) = (cut.triangles.len(), corners - 2);
     if found < wanted {
         return Err(format!("face {number} is cut short: {found} of {wanted} triangles"));
     }
-    Ok(triangles)
+    Ok(cut.triangles)
 }
 
 /// What is told of vertices that are not written, or not as vertices of their own.
@@ -765,7 +765,7 @@ mod tests {
     #[test]
     fn faces_are_cut_into_triangles() {
         let square = piece(&SQUARE, &[&[0, 1, 2, 3]]);
-        let cut = square.cell.as_cell().triangles(0).unwrap();
+        let cut = square.cell.as_cell().triangles(0).unwrap().triangles;
         let (text, told) = text_of(&[square]);
         let read_back = &read(text.as_bytes()).unwrap().pieces[0];
         let facets = read_back.cell.as_cell();

@@ -57,7 +57,7 @@ pub struct Description {
     pub shape: Shape,
 }
 
-/// A face cut into triangles, and how many tests that took.
+/// A face cut into triangles, and how many tests were made.
 #[derive(Clone, Debug, PartialEq, Eq)]
 pub struct FaceCut {
     /// The triangles in the order of the cut: n - 2 of them for n >= 3 corners, or fewer where the
@@ -65,8 +65,8 @@ pub struct FaceCut {
     pub triangles: Vec<[u32; 3]>,
     /// How many tests the cut made. A test asks whether the turn at a corner of the ring that is
     /// left, times the direction of the face, is at least 0; a ring of three is not tested. There
-    /// are at most n² + n - 12 tests for n >= 3 corners, and none below; one costs at most one walk
-    /// over the ring, of at most n points.
+    /// are at most n² + n - 12 tests for n >= 3 corners, and none below; after a test at most n
+    /// points of the ring are held against the corner's triangle.
     pub tests: usize,
 }
 

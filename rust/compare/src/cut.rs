@@ -279,110 +279,66 @@ mod tests {
     use super::*;
     use crate::comparison::tests::smallest_of;
 
-    /// The slip 'emitting a fan'.
-    fn fan(cell: &Cell, face: u32, out: &mut [[u32; 3]], count: &mut [usize]) -> u8 {
-        let answer = ours::triangles(cell, face, out, count);
-        if answer == 0 {
+    /// Wrong cuts by an entry: what it answered, and then a change of the lists where it cut the face.
+    macro_rules! slips {
+        ($($(#[$said:meta])* $name:ident of $entry:ident: $change:expr;)*) => {$(
+            $(#[$said])*
+            fn $name(cell: &Cell, face: u32, out: &mut [[u32; 3]], count: &mut [usize]) -> u8 {
+                let answer = ours::$entry(cell, face, out, count);
+                if answer == 0 {
+                    let change: fn(&Cell, u32, &mut [[u32; 3]], &mut [usize]) = $change;
+                    change(cell, face, out, count);
+                }
+                answer
+            }
+        )*};
+    }
+
+    slips! {
+        /// The slip 'emitting a fan'.
+        fan of triangles: |cell, face, out, count| {
             let corners = cell.face(face);
             for place in 2..corners.len() {
                 out[place - 2] = [corners[0], corners[place - 1], corners[place]];
             }
             count[0] = corners.len().saturating_sub(2);
-        }
-        answer
-    }
+        };
 
-    /// A cut that is right but leaves a mark after its last triangle.
-    fn marks_the_next_place(
-        cell: &Cell,
-        face: u32,
-        out: &mut [[u32; 3]],
-        count: &mut [usize],
-    ) -> u8 {
-        let answer = ours::triangles(cell, face, out, count);
-        if answer == 0
-            && let Some(next) = out.get_mut(count[0])
-        {
-            *next = [0; 3];
-        }
-        answer
-    }
+        /// A cut that is right but leaves a mark after its last triangle.
+        marks_the_next_place of triangles: |_, _, out, count| {
+            if let Some(next) = out.get_mut(count[0]) {
+                *next = [0; 3];
+            }
+        };
 
-    /// The slip 'the second pass not counted'.
-    fn counts_the_first_pass(
-        cell: &Cell,
-        face: u32,
-        out: &mut [[u32; 3]],
-        count: &mut [usize],
-    ) -> u8 {
-        let answer = ours::triangles(cell, face, out, count);
-        if answer == 0
-            && let Ok(cut) = by_place(cell, face)
-        {
+        /// The slip 'the second pass not counted'.
+        counts_the_first_pass of triangles: |cell, face, _, count| {
+            let cut = by_place(cell, face).expect("the face is cut");
             count[1] = cut.tests.in_first_pass;
-        }
-        answer
-    }
+        };
 
-    /// The slip 'the corner that is taken is not counted', at each ring of more than three.
-    fn counts_up_to_the_corner(
-        cell: &Cell,
-        face: u32,
-        out: &mut [[u32; 3]],
-        count: &mut [usize],
-    ) -> u8 {
-        let answer = ours::triangles(cell, face, out, count);
-        if answer == 0 {
+        /// The slip 'the corner that is taken is not counted', at each ring of more than three.
+        counts_up_to_the_corner of triangles: |cell, face, _, count| {
             count[1] -= count[0] - rings_of_three(cell, face, count[0]);
-        }
-        answer
-    }
+        };
 
-    /// The slip 'a test at the ring of three'.
-    fn tests_the_last_ring(
-        cell: &Cell,
-        face: u32,
-        out: &mut [[u32; 3]],
-        count: &mut [usize],
-    ) -> u8 {
-        let answer = ours::triangles(cell, face, out, count);
-        if answer == 0 {
+        /// The slip 'a test at the ring of three'.
+        tests_the_last_ring of triangles: |cell, face, _, count| {
             count[1] += rings_of_three(cell, face, count[0]);
-        }
-        answer
-    }
+        };
 
-    /// The same slip by place.
-    fn tests_the_last_ring_by_place(
-        cell: &Cell,
-        face: u32,
-        out: &mut [[u32; 3]],
-        count: &mut [usize],
-    ) -> u8 {
-        let answer = ours::triangle_places(cell, face, out, count);
-        if answer == 0 {
+        /// The same slip by place.
+        tests_the_last_ring_by_place of triangle_places: |cell, face, _, count| {
             count[1] += rings_of_three(cell, face, count[0]);
-        }
-        answer
+        };
+
+        /// The slip 'the tests before the triangles'.
+        counts_the_other_way of triangles: |_, _, _, count| count.swap(0, 1);
     }
 
     /// How many of the triangles of a face are a ring of three: 1 where the face is fully cut.
     fn rings_of_three(cell: &Cell, face: u32, triangles: usize) -> usize {
         usize::from(triangles > 0 && triangles + 2 == cell.face(face).len())
-    }
-
-    /// The slip 'the tests before the triangles'.
-    fn counts_the_other_way(
-        cell: &Cell,
-        face: u32,
-        out: &mut [[u32; 3]],
-        count: &mut [usize],
-    ) -> u8 {
-        let answer = ours::triangles(cell, face, out, count);
-        if answer == 0 {
-            count.swap(0, 1);
-        }
-        answer
     }
 
     /// The slip 'the tests behind their place', where there is a place to spare.

@@ -1,22 +1,23 @@
 //! `compare most-tests`: how many tests of turn × direction the cutting of one face can take.
 //!
-//! Nothing of the port runs here. A ring of m > 3 corners takes at most m tests in each of two passes,
-//! so a face of n corners takes at most n² + n − 12 of them (request 10). That is proved
-//! (`TestsWithin`, crates/cut/specs/Tests.antt), and so is that faces of 4 to 9 corners reach it
-//! (crates/worked/specs/Tests.antt).
+//! A ring of m > 3 corners takes at most m tests in each of two passes, so a face of n corners takes
+//! at most n² + n − 12 of them (request 10). That is proved (`TestsWithin`,
+//! crates/cut/specs/Tests.antt), and so is that faces of 4 to 9 corners reach it
+//! (crates/worked/specs/Tests.antt). Here the Rust counts, and the port must count as many.
 //!
 //! For each n from 3 to 9 two faces are shown: the one with the most tests that is found among small
 //! whole numbers, on which every sum and product is exact, and the one with the most that is known at
 //! all. The first is searched for in climbs. What the climbs find is only found: there may be more.
-//! The second is built, lives from rounding, and takes as many tests as there may be. Faces that do
+//! The second is built, rests on rounding, and takes as many tests as there may be. Faces that do
 //! so are built for every n from 5 to 256, too. And for n from 4 to 6 every face on a small grid of
 //! whole numbers is tried.
 
-use crate::cut::most_tests;
+use crate::cells::Cell;
+use crate::cut::{COUNTS, most_tests};
 use crate::limits::MOST_VERTICES;
 use crate::random::Random;
 use crate::refusals::is_bad_number;
-use crate::{Outcome, count_and_seed};
+use crate::{Outcome, count_and_seed, ours};
 
 /// A point of the plane in which a face is cut.
 type Point = [f64; 2];
@@ -111,10 +112,10 @@ impl Face {
         }
     }
 
-    /// Whether the face is one that may be asked about, is cut as the Rust cuts it, and takes no more
-    /// tests than there may be.
+    /// Whether the face is one that may be asked about, is cut by the port as by the Rust, and takes no
+    /// more tests than there may be.
     fn is_sound(&self) -> bool {
-        self.is_in_the_domain() && self.is_the_rusts() && self.tests <= self.limit()
+        self.is_in_the_domain() && self.is_ours() && self.tests <= self.limit()
     }
 
     fn takes_the_most(&self) -> bool {
@@ -129,118 +130,39 @@ impl Face {
         !self.points.as_flattened().iter().any(|&x| is_bad_number(x))
     }
 
-    /// Whether the Rust cuts the face in the same way, with as many tests.
-    ///
-    /// The face stands at x = 0. There two of its Newell sums are 0, so it is seen along the first
-    /// axis, as y and z, whatever the third sum is.
-    fn is_the_rusts(&self) -> bool {
-        let points: Vec<[f64; 3]> = self.points.iter().map(|&point| at_zero(point)).collect();
-        let places: Vec<usize> = (0..points.len()).collect();
-        let same = ear_clip_tests(&points, &places) == (self.triangles.clone(), self.tests);
+    /// Whether the port cuts the face in the same way, with as many tests.
+    fn is_ours(&self) -> bool {
+        let points = in_space(&self.points);
+        let corners: Vec<u32> = (0..points.len() as u32).collect();
+        let cell = Cell::of_one_face(points.as_flattened(), &corners);
+        let mut out = vec![[0; 3]; points.len().saturating_sub(2)];
+        let mut counts = [0; COUNTS];
+        let answer = ours::triangles(&cell, 0, &mut out, &mut counts);
+        out.truncate(counts[0]);
+        let triangles: Vec<[usize; 3]> = out
+            .iter()
+            .map(|t| t.map(|corner| corner as usize))
+            .collect();
+        let same = (answer, &triangles, counts[1]) == (0, &self.triangles, self.tests);
         if !same {
-            println!("the Rust cuts this face in another way: {points:?}");
+            println!("the port cuts this face in another way: {points:?}");
         }
         same
     }
 }
 
-/// The triangles of a face and the tests that were made to find them, by the Rust, in the build that
-/// counts them.
-fn ear_clip_tests(points: &[[f64; 3]], face: &[usize]) -> (Vec<[usize; 3]>, usize) {
-    let (triangles, tests) = oracle::counted::ear_clip_tests(points, face);
+/// The triangles of a face and how many tests were made, by the Rust, in the build that counts them.
+fn cut(points: &[Point]) -> (Vec<[usize; 3]>, usize) {
+    let points = in_space(points);
+    let places: Vec<usize> = (0..points.len()).collect();
+    let (triangles, tests) = oracle::counted::ear_clip_tests(&points, &places);
     (triangles, tests.all())
 }
 
-/// Cuts a face in its plane, as SCOPE 7 says, and counts the tests of turn × direction as request 10
-/// does: at a ring of more than three corners one for each corner up to the one that the pass takes,
-/// that one included, or for every corner where it takes none; and so again in the second pass, which
-/// is made only where the first takes none.
-///
-/// It is told again here for speed: more than a hundred million faces are cut, and the Rust, in space,
-/// takes about twice as long for six corners and more. The best faces are held to the Rust, and random
-/// ones by a test.
-fn cut(points: &[Point]) -> (Vec<[usize; 3]>, usize) {
-    let direction = direction_of(points);
-    let mut ring: Vec<usize> = (0..points.len()).collect();
-    let mut triangles = Vec::with_capacity(points.len());
-    let mut tests = 0;
-    while ring.len() > 3 {
-        let [first, second] = tested(points, &ring, direction);
-        tests += first.tests + second.tests;
-        let Some(place) = first.taken.or(second.taken) else {
-            return (triangles, tests);
-        };
-        triangles.push(corner_at(&ring, place));
-        ring.remove(place);
-    }
-    if let [a, b, c] = ring[..] {
-        triangles.push([a, b, c]);
-    }
-    (triangles, tests)
-}
-
-fn direction_of(points: &[Point]) -> f64 {
-    let mut area = 0.0;
-    for (k, a) in points.iter().enumerate() {
-        let b = points[(k + 1) % points.len()];
-        area += a[0] * b[1] - a[1] * b[0];
-    }
-    if area >= 0.0 { 1.0 } else { -1.0 }
-}
-
-/// A pass over a ring: the tests that it made, and the place at which it took a corner.
-#[derive(Clone, Copy, Default)]
-struct Pass {
-    tests: usize,
-    taken: Option<usize>,
-}
-
-/// The first pass, and the second where the first takes none.
-fn tested(points: &[Point], ring: &[usize], direction: f64) -> [Pass; 2] {
-    let turns_well = |place| {
-        let [a, b, c] = corner_at(ring, place).map(|k| points[k]);
-        cross2(a, b, c) * direction >= 0.0
-    };
-    let is_ear = |place| turns_well(place) && !is_blocked(points, ring, place, direction);
-    let first = pass(ring.len(), is_ear);
-    match first.taken {
-        Some(_) => [first, Pass::default()],
-        None => [first, pass(ring.len(), turns_well)],
-    }
-}
-
-fn pass(corners: usize, takes: impl Fn(usize) -> bool) -> Pass {
-    let taken = (0..corners).find(|&place| takes(place));
-    Pass {
-        tests: taken.map_or(corners, |place| place + 1),
-        taken,
-    }
-}
-
-/// The corner at a place of a ring, between the one before it and the one after it.
-fn corner_at(ring: &[usize], place: usize) -> [usize; 3] {
-    let corners = ring.len();
-    [
-        ring[(place + corners - 1) % corners],
-        ring[place],
-        ring[(place + 1) % corners],
-    ]
-}
-
-fn is_blocked(points: &[Point], ring: &[usize], place: usize, direction: f64) -> bool {
-    let [a, b, c] = corner_at(ring, place).map(|k| points[k]);
-    ring.iter().map(|&k| points[k]).any(|p| {
-        p != a
-            && p != b
-            && p != c
-            && cross2(a, b, p) * direction > 0.0
-            && cross2(b, c, p) * direction > 0.0
-            && cross2(c, a, p) * direction > 0.0
-    })
-}
-
-fn cross2(a: Point, b: Point, c: Point) -> f64 {
-    (b[0] - a[0]) * (c[1] - a[1]) - (b[1] - a[1]) * (c[0] - a[0])
+/// The points of a face, which stands at x = 0. There two of its Newell sums are 0, so it is seen along
+/// the first axis, as y and z, whatever the third sum is.
+fn in_space(points: &[Point]) -> Vec<[f64; 3]> {
+    points.iter().map(|&[y, z]| [0.0, y, z]).collect()
 }
 
 /// 2^27, and the next whole number.
@@ -316,12 +238,7 @@ pub fn of_most_tests(corners: usize) -> Vec<[f64; 3]> {
         4 => SQUARE.to_vec(),
         _ => with_a_curve(corners),
     };
-    points.iter().map(|&point| at_zero(point)).collect()
-}
-
-/// A point of the plane where faces stand, x = 0.
-fn at_zero([y, z]: Point) -> [f64; 3] {
-    [0.0, y, z]
+    in_space(&points)
 }
 
 /// A point of a parabola that begins at p5, so short that p0 sees all of it where it sees p5, and run
@@ -518,7 +435,7 @@ mod tests {
     }
 
     #[test]
-    fn faces_of_whole_points_are_cut_as_the_rust_cuts_them() {
+    fn the_port_cuts_faces_of_whole_points_as_the_rust_does() {
         let mut random = Random::new(1);
         for _ in 0..20_000 {
             let corners = random.between(3, 12);

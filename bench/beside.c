@@ -1,10 +1,12 @@
 /* Times two builds of the C names in one run; bench/beside makes the two shared objects and calls this.
  * Each side's time is the median of short rounds taken in turn, and the ratio the median of the ratios of neighbouring
- * rounds. Which side begins changes from one pair of rounds to the next. */
+ * rounds. Which side begins changes from one pair of rounds to the next. Before a row is timed both builds are asked once,
+ * and a row of which any bit differs is not timed. */
 #include <dlfcn.h>
 #include <math.h>
 #include <stdio.h>
 #include <stdlib.h>
+#include <string.h>
 #include <time.h>
 
 #include "wegrusamt.h"
@@ -13,18 +15,53 @@
 #define ROUNDS 401
 #define MOST_VERTICES 256
 #define MOST_CORNERS 2048
+#define MOST_FACES 256
+#define MOST_WORK 3072
+#define NUMBERS 1023
 #define FULL_CIRCLE 6.283185307179586
 
-/* A cell, and the lists that the entries write to. */
-static double coords[3 * MOST_VERTICES];
-static uint32_t corners[MOST_CORNERS], ends[MOST_VERTICES], triangles[MOST_CORNERS][3];
-static size_t coords_len, corners_len, ends_len, counts[2];
-static double volume[1];
+/* The three lists of a cell, as the entries take them. */
+#define LISTS(cell) (cell).coords, (cell).coords_len, (cell).corners, (cell).corners_len, (cell).ends, (cell).ends_len
+
+struct cell {
+    double coords[3 * MOST_VERTICES];
+    uint32_t corners[MOST_CORNERS], ends[MOST_FACES];
+    size_t coords_len, corners_len, ends_len;
+};
+
+/* What the entries are asked about: a cell, another one with its planes, and numbers for the leaves. */
+static struct cell one, other;
+static double planes[4 * MOST_FACES], numbers[NUMBERS][2];
+
+/* The lists that the entries write to. */
+static struct answers {
+    double out[NUMBERS], first[MOST_WORK], second[MOST_WORK];
+    uint32_t triangles[MOST_CORNERS][3];
+    size_t counts[2];
+} answers;
 
 /* The entries of one build. */
 struct build {
     __typeof__(&wegrusamt_triangles) triangles;
     __typeof__(&wegrusamt_volume) volume;
+    __typeof__(&wegrusamt_root) root;
+    __typeof__(&wegrusamt_length) length;
+    __typeof__(&wegrusamt_plane_of_face) plane_of_face;
+    __typeof__(&wegrusamt_clip_face) clip_face;
+    __typeof__(&wegrusamt_convex_intersection_volume) convex_intersection_volume;
+};
+
+/* The old one and the new one. */
+static struct build builds[2];
+
+/* A row of the table: how its input is made, what is called on it, how often in a round, and how many times this calls the
+ * entry. */
+struct row {
+    const char *name;
+    void (*make)(int n);
+    int n;
+    uint8_t (*call)(const struct build *build);
+    int calls, entries;
 };
 
 static void *found(void *library, const char *name)
@@ -44,20 +81,289 @@ static struct build loaded(const char *path)
         fprintf(stderr, "bench/beside: %s\n", dlerror());
         exit(2);
     }
-    struct build build = {found(library, "wegrusamt_triangles"), found(library, "wegrusamt_volume")};
+    struct build build = {
+        .triangles = found(library, "wegrusamt_triangles"),
+        .volume = found(library, "wegrusamt_volume"),
+        .root = found(library, "wegrusamt_root"),
+        .length = found(library, "wegrusamt_length"),
+        .plane_of_face = found(library, "wegrusamt_plane_of_face"),
+        .clip_face = found(library, "wegrusamt_clip_face"),
+        .convex_intersection_volume = found(library, "wegrusamt_convex_intersection_volume"),
+    };
     return build;
 }
 
-static uint8_t cut(struct build build)
+static void check(uint8_t code, const char *name)
 {
-    return build.triangles(coords, coords_len, corners, corners_len, ends, ends_len, 0, triangles, LENGTH(triangles), counts,
-                           LENGTH(counts));
+    if (code != 0) {
+        fprintf(stderr, "bench/beside: %s: a call is refused by %d\n", name, code);
+        exit(1);
+    }
 }
 
-static uint8_t measure(struct build build)
+/* ---- the calls ---- */
+
+static uint8_t cut(const struct build *build)
 {
-    return build.volume(coords, coords_len, corners, corners_len, ends, ends_len, volume, LENGTH(volume));
+    return build->triangles(LISTS(one), 0, answers.triangles, LENGTH(answers.triangles), answers.counts,
+                            LENGTH(answers.counts));
 }
+
+static uint8_t measure(const struct build *build)
+{
+    return build->volume(LISTS(one), answers.out, 1);
+}
+
+static uint8_t roots(const struct build *build)
+{
+    for (int k = 0; k < NUMBERS; k++) {
+        answers.out[k] = build->root(numbers[k][0]);
+    }
+    return 0;
+}
+
+static uint8_t lengths(const struct build *build)
+{
+    for (int k = 0; k < NUMBERS; k++) {
+        answers.out[k] = build->length(numbers[k][0], numbers[k][1]);
+    }
+    return 0;
+}
+
+/* The planes of all faces, since the normals of a box have their one part in different places. */
+static uint8_t all_planes(const struct build *build)
+{
+    uint8_t code = 0;
+    for (uint32_t face = 0; face < one.ends_len; face++) {
+        code |= build->plane_of_face(LISTS(one), face, answers.out + 4 * face, 4);
+    }
+    return code;
+}
+
+/* Each plane adds a point at most. The work lists are no longer than this, since a call clears the whole of them. */
+static size_t room(void)
+{
+    return 3 * (one.ends[0] + other.ends_len);
+}
+
+static uint8_t clip(const struct build *build)
+{
+    return build->clip_face(LISTS(one), 0, planes, 4 * other.ends_len, 0.0, answers.first, room(), answers.second, room(),
+                            answers.counts, LENGTH(answers.counts));
+}
+
+static uint8_t overlap(const struct build *build)
+{
+    return build->convex_intersection_volume(LISTS(one), LISTS(other), answers.first, room(), answers.second, room(),
+                                             answers.out, 1);
+}
+
+/* ---- what they are asked about ---- */
+
+/* The next of a fixed sequence of numbers of 53 bits. */
+static uint64_t drawn(void)
+{
+    static uint64_t state = 1;
+    state = state * 6364136223846793005u + 1442695040888963407u;
+    return state >> 11;
+}
+
+/* One number of each two neighbouring exponents, from the subnormals up; which of the two is drawn, as all digits are. */
+static void all_exponents(int n)
+{
+    for (int k = 0; k < n; k++) {
+        uint64_t bits = (uint64_t)k << 53 | drawn();
+        memcpy(&numbers[k][0], &bits, sizeof bits);
+    }
+}
+
+/* Pairs of numbers between -10 and 10. */
+static void usual_pairs(int n)
+{
+    for (int k = 0; k < n; k++) {
+        numbers[k][0] = 20.0 * (double)drawn() / 0x1p53 - 10.0;
+        numbers[k][1] = 20.0 * (double)drawn() / 0x1p53 - 10.0;
+    }
+}
+
+static void pairs_with_0(int n)
+{
+    usual_pairs(n);
+    for (int k = 0; k < n; k++) {
+        numbers[k][1] = 0.0;
+    }
+}
+
+/* The vertex k of a ring of n at a height. */
+static void put_vertex(struct cell *cell, int vertex, int k, int n, double height)
+{
+    cell->coords[3 * vertex] = cos(FULL_CIRCLE * k / n);
+    cell->coords[3 * vertex + 1] = sin(FULL_CIRCLE * k / n);
+    cell->coords[3 * vertex + 2] = height;
+}
+
+static void put_corner(struct cell *cell, int vertex)
+{
+    cell->corners[cell->corners_len++] = (uint32_t)vertex;
+}
+
+static void end_face(struct cell *cell)
+{
+    cell->ends[cell->ends_len++] = (uint32_t)cell->corners_len;
+}
+
+/* A regular polygon, as the only face of a cell. */
+static void put_polygon(struct cell *cell, int n)
+{
+    cell->coords_len = 3 * (size_t)n;
+    cell->corners_len = cell->ends_len = 0;
+    for (int k = 0; k < n; k++) {
+        put_vertex(cell, k, k, n, 0.0);
+        put_corner(cell, k);
+    }
+    end_face(cell);
+}
+
+/* A prism over a regular polygon. */
+static void put_prism(struct cell *cell, int n)
+{
+    cell->coords_len = 6 * (size_t)n;
+    cell->corners_len = cell->ends_len = 0;
+    for (int k = 0; k < n; k++) {
+        put_vertex(cell, k, k, n, 0.0);
+        put_vertex(cell, n + k, k, n, 1.0);
+        put_corner(cell, n - 1 - k);
+    }
+    end_face(cell);
+    for (int k = 0; k < n; k++) {
+        put_corner(cell, n + k);
+    }
+    end_face(cell);
+    for (int k = 0; k < n; k++) {
+        int next = (k + 1) % n;
+        put_corner(cell, k);
+        put_corner(cell, next);
+        put_corner(cell, n + next);
+        put_corner(cell, n + k);
+        end_face(cell);
+    }
+}
+
+/* A cube of side 1 about the origin: the faces of a prism of n = 4 sides, with vertices along the axes. */
+static void put_box(struct cell *cell, int n)
+{
+    put_prism(cell, n);
+    for (int vertex = 0; vertex < 2 * n; vertex++) {
+        int k = vertex % n;
+        cell->coords[3 * vertex] = k == 0 || k == 3 ? 0.5 : -0.5;
+        cell->coords[3 * vertex + 1] = k < 2 ? 0.5 : -0.5;
+        cell->coords[3 * vertex + 2] = vertex < n ? -0.5 : 0.5;
+    }
+}
+
+/* Turns a cell by a sixth of a circle about (1, 1, 1), so that no axis stays one. */
+static void tilt(struct cell *cell)
+{
+    for (size_t k = 0; k < cell->coords_len; k += 3) {
+        double *p = cell->coords + k, x = p[0], y = p[1], z = p[2];
+        p[0] = (2.0 * x - y + 2.0 * z) / 3.0;
+        p[1] = (2.0 * x + 2.0 * y - z) / 3.0;
+        p[2] = (2.0 * y + 2.0 * z - x) / 3.0;
+    }
+}
+
+/* Moves a cell as the rows of bench/run do. */
+static void move(struct cell *cell)
+{
+    const double way[3] = {0.3, 0.4, 0.2};
+    for (size_t k = 0; k < cell->coords_len; k++) {
+        cell->coords[k] += way[k % 3];
+    }
+}
+
+/* The planes of the other cell, which both builds are lent as the old one computes them. */
+static void take_planes(void)
+{
+    for (uint32_t face = 0; face < other.ends_len; face++) {
+        check(builds[0].plane_of_face(LISTS(other), face, planes + 4 * face, 4), "plane_of_face");
+    }
+}
+
+static void polygon(int n)
+{
+    put_polygon(&one, n);
+}
+
+static void prism(int n)
+{
+    put_prism(&one, n);
+}
+
+static void box(int n)
+{
+    put_box(&one, n);
+}
+
+static void tilted_prism(int n)
+{
+    put_prism(&one, n);
+    tilt(&one);
+}
+
+/* A tilted square through the middle of a box, so that each of the six planes cuts something off. */
+static void square_in_box(int n)
+{
+    put_polygon(&one, n);
+    tilt(&one);
+    put_box(&other, n);
+    take_planes();
+}
+
+/* A tilted prism, and its lower outline moved into it and to the side, so that some of the planes cut something off. */
+static void polygon_in_prism(int n)
+{
+    put_polygon(&one, n);
+    tilt(&one);
+    move(&one);
+    put_prism(&other, n);
+    tilt(&other);
+    take_planes();
+}
+
+static void two_boxes(int n)
+{
+    put_box(&one, n);
+    put_box(&other, n);
+    move(&other);
+}
+
+static void two_tilted_prisms(int n)
+{
+    tilted_prism(n);
+    put_prism(&other, n);
+    tilt(&other);
+    move(&other);
+}
+
+/* ---- the table ---- */
+
+static const struct row rows[] = {
+    {"triangles", polygon, 4, cut, 2000, 1},
+    {"triangles", polygon, 64, cut, 40, 1},
+    {"triangles", polygon, 256, cut, 4, 1},
+    {"volume", prism, 4, measure, 400, 1},
+    {"volume", prism, 36, measure, 40, 1},
+    {"volume", prism, 124, measure, 8, 1},
+    {"root", all_exponents, NUMBERS, roots, 1, NUMBERS},
+    {"length", usual_pairs, NUMBERS, lengths, 1, NUMBERS},
+    {"length, a part 0", pairs_with_0, NUMBERS, lengths, 1, NUMBERS},
+    {"plane_of_face, box", box, 4, all_planes, 400, 6},
+    {"plane_of_face, tilted", tilted_prism, 4, all_planes, 400, 6},
+    {"clip_face, box", square_in_box, 4, clip, 400, 1},
+    {"clip_face, tilted", polygon_in_prism, 16, clip, 100, 1},
+    {"convex_intersection_volume, boxes", two_boxes, 4, overlap, 60, 1},
+    {"convex_intersection_volume, tilted", two_tilted_prisms, 16, overlap, 8, 1},
+};
 
 static double nanoseconds(void)
 {
@@ -66,17 +372,17 @@ static double nanoseconds(void)
     return 1e9 * (double)now.tv_sec + (double)now.tv_nsec;
 }
 
-/* How long one call takes, in a round of so many. */
-static double timed(uint8_t (*call)(struct build), struct build build, int calls)
+/* How long the entry takes for one call, in a round. A call before it makes up for what the other build has driven from the
+ * processor's memory; then the input is made again, so that the leaves have numbers of which no branch is learned. */
+static double timed(const struct row *row, const struct build *build)
 {
+    check(row->call(build), row->name);
+    row->make(row->n);
     double start = nanoseconds();
-    for (int k = 0; k < calls; k++) {
-        if (call(build) != 0) {
-            fprintf(stderr, "bench/beside: a call is refused\n");
-            exit(1);
-        }
+    for (int k = 0; k < row->calls; k++) {
+        check(row->call(build), row->name);
     }
-    return (nanoseconds() - start) / calls;
+    return (nanoseconds() - start) / row->calls / row->entries;
 }
 
 static int ordered(const void *a, const void *b)
@@ -91,91 +397,69 @@ static double median(double *values)
     return values[ROUNDS / 2];
 }
 
-static void row(const char *entry, uint8_t (*call)(struct build), const struct build builds[2], int calls)
+/* Whether both builds write the same bits. */
+static int are_same(const struct row *row)
+{
+    static struct answers of_both[2];
+    for (int side = 0; side < 2; side++) {
+        memset(&answers, 0, sizeof answers);
+        check(row->call(&builds[side]), row->name);
+        memcpy(&of_both[side], &answers, sizeof answers);
+    }
+    return memcmp(&of_both[0], &of_both[1], sizeof answers) == 0;
+}
+
+static size_t size_of(const struct row *row)
+{
+    return row->entries == NUMBERS ? NUMBERS : one.corners_len;
+}
+
+static void print_timed(const struct row *row)
 {
     static double times[2][ROUNDS], ratios[ROUNDS];
     for (int round = 0; round < ROUNDS; round++) {
         for (int k = 0; k < 2; k++) {
             int side = (round + k) % 2;
-            times[side][round] = timed(call, builds[side], calls);
+            times[side][round] = timed(row, &builds[side]);
         }
         ratios[round] = times[1][round] / times[0][round];
     }
-    printf("%-12s %6zu %12.1f %12.1f %8.3f\n", entry, corners_len, median(times[0]), median(times[1]), median(ratios));
+    printf("%-34s %6zu %12.1f %12.1f %8.3f\n", row->name, size_of(row), median(times[0]), median(times[1]), median(ratios));
 }
 
-/* The vertex k of a ring of n at a height. */
-static void put_vertex(int vertex, int k, int n, double height)
+/* Holds the two builds to the same answers, and times them; 1 where the answers differ. */
+static int compare(const struct row *row)
 {
-    coords[3 * vertex] = cos(FULL_CIRCLE * k / n);
-    coords[3 * vertex + 1] = sin(FULL_CIRCLE * k / n);
-    coords[3 * vertex + 2] = height;
-}
-
-static void put_corner(int vertex)
-{
-    corners[corners_len++] = (uint32_t)vertex;
-}
-
-static void end_face(void)
-{
-    ends[ends_len++] = (uint32_t)corners_len;
-}
-
-/* A regular polygon, as the only face of a cell. */
-static void polygon(int n)
-{
-    coords_len = 3 * (size_t)n;
-    corners_len = ends_len = 0;
-    for (int k = 0; k < n; k++) {
-        put_vertex(k, k, n, 0.0);
-        put_corner(k);
+    row->make(row->n);
+    if (!are_same(row)) {
+        fprintf(stderr, "bench/beside: %s, size %zu: the answers of the two builds differ\n", row->name, size_of(row));
+        return 1;
     }
-    end_face();
-}
-
-/* A prism over a regular polygon. */
-static void prism(int n)
-{
-    coords_len = 6 * (size_t)n;
-    corners_len = ends_len = 0;
-    for (int k = 0; k < n; k++) {
-        put_vertex(k, k, n, 0.0);
-        put_vertex(n + k, k, n, 1.0);
-        put_corner(n - 1 - k);
-    }
-    end_face();
-    for (int k = 0; k < n; k++) {
-        put_corner(n + k);
-    }
-    end_face();
-    for (int k = 0; k < n; k++) {
-        int next = (k + 1) % n;
-        put_corner(k);
-        put_corner(next);
-        put_corner(n + next);
-        put_corner(n + k);
-        end_face();
-    }
+    print_timed(row);
+    return 0;
 }
 
 int main(int argc, char **argv)
 {
-    if (argc != 3) {
-        fprintf(stderr, "usage: beside OLD.so NEW.so\n");
+    if (argc != 3 && argc != 4) {
+        fprintf(stderr, "usage: beside OLD.so NEW.so [WORD]\n");
         return 2;
     }
-    const struct build builds[2] = {loaded(argv[1]), loaded(argv[2])};
-    const int faces[][2] = {{4, 2000}, {64, 40}, {256, 4}}, cells[][2] = {{4, 400}, {36, 40}, {124, 8}};
-    printf("ns per call, medians of %d rounds taken in turn\n", ROUNDS);
-    printf("%-12s %6s %12s %12s %8s\n", "entry", "size", "old", "new", "new/old");
-    for (size_t k = 0; k < LENGTH(faces); k++) {
-        polygon(faces[k][0]);
-        row("triangles", cut, builds, faces[k][1]);
+    const char *word = argc == 4 ? argv[3] : "";
+    int status = 0, taken = 0;
+    builds[0] = loaded(argv[1]);
+    builds[1] = loaded(argv[2]);
+    printf("ns per call, medians of %d rounds taken in turn; the size is in corners of the cell, or in numbers\n", ROUNDS);
+    printf("%-34s %6s %12s %12s %8s\n", "entry", "size", "old", "new", "new/old");
+    for (const struct row *row = rows; row < rows + LENGTH(rows); row++) {
+        if (strstr(row->name, word) != NULL) {
+            taken++;
+            status |= compare(row);
+        }
     }
-    for (size_t k = 0; k < LENGTH(cells); k++) {
-        prism(cells[k][0]);
-        row("volume", measure, builds, cells[k][1]);
+    if (taken == 0) {
+        fprintf(stderr, "bench/beside: no row has '%s' in its name\n", word);
+        return 2;
     }
-    return 0;
+    return status;
 }

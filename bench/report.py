@@ -1,5 +1,9 @@
-"""Times target/bin/cell_report and the same report over the Rust (rust/oracle, rust_report) on streams of
-prisms, in turn, and prints MB/s and the ratio of the medians. Started by bench/run, which builds both."""
+"""bench/report.py [OLD NEW]: times two programs that write the cell report on streams of prisms, in turn, and prints MB/s and the
+ratio of the medians. Their outputs must be the same.
+
+Without arguments they are target/bin/cell_report and the same report over the Rust (rust/oracle, rust_report); bench/run starts it so
+and builds both. OLD and NEW are two builds of cell_report, and the ratio is that of NEW to OLD.
+"""
 import math
 import os
 import statistics
@@ -43,11 +47,11 @@ def prism(k):
 def seconds(program, stream, out):
     with open(stream, "rb") as data, open(out, "wb") as lines:
         start = time.perf_counter()
-        subprocess.run([program], stdin=data, stdout=lines, check=True)
+        subprocess.run([os.path.abspath(program)], stdin=data, stdout=lines, check=True)
         return time.perf_counter() - start
 
 
-def row(cells, folder):
+def row(programs, cells, folder):
     """The medians of both programs on so many cells; their outputs must be the same file."""
     stream = os.path.join(folder, "stream")
     block = b"".join(prism(k) for k in range(400))
@@ -55,23 +59,33 @@ def row(cells, folder):
         for _ in range(cells // 400):
             data.write(block)
     size = os.path.getsize(stream) / 1e6
-    outs = [os.path.join(folder, name) for name in ("ours", "rust")]
-    times = [[seconds(program, stream, out) for program, out in zip((OURS, RUST), outs)] for _ in range(ROUNDS)]
+    outs = [os.path.join(folder, name) for name in ("first", "second")]
+    times = [[seconds(program, stream, out) for program, out in zip(programs, outs)] for _ in range(ROUNDS)]
     texts = [open(out, "rb").read() for out in outs]
     if texts[0] != texts[1]:
         sys.exit(f"the two reports differ on {cells} cells")
-    ours, rust = (statistics.median(side) for side in zip(*times))
-    print(f"{'report':28} {cells:6} cells {size:7.1f} MB {size / ours:8.0f} MB/s {size / rust:8.0f} MB/s {ours / rust:10.2f}")
+    first, second = (statistics.median(side) for side in zip(*times))
+    print(f"{'report':28} {cells:6} cells {size:7.1f} MB {size / first:8.0f} MB/s {size / second:8.0f} MB/s {first / second:10.2f}")
+
+
+def asked():
+    """The two programs, and what the columns have."""
+    if len(sys.argv) == 1:
+        return (OURS, RUST), "ours, the Rust, ours/Rust"
+    if len(sys.argv) == 3:
+        return (sys.argv[2], sys.argv[1]), "new, old, new/old"
+    raise SystemExit(__doc__)
 
 
 def main():
-    for program in (OURS, RUST):
-        if not os.access(program, os.X_OK):
-            sys.exit(f"{os.path.relpath(program, TOP)} is missing: bench/run builds it")
-    print(f"\nthe cell report on prisms of {SIDES} sides, medians of {ROUNDS} rounds taken in turn: ours, the Rust, ours/Rust in time")
+    programs, columns = asked()
+    for program in programs:
+        if not (os.path.isfile(program) and os.access(program, os.X_OK)):
+            sys.exit(f"there is no program {program} (bench/run report builds ours and the Rust's)")
+    print(f"\nthe cell report on prisms of {SIDES} sides, medians of {ROUNDS} rounds taken in turn: {columns} in time")
     with tempfile.TemporaryDirectory() as folder:
         for cells in CELLS:
-            row(cells, folder)
+            row(programs, cells, folder)
 
 
 if __name__ == "__main__":

@@ -2,8 +2,8 @@ pub mod Nans
 pub mod Signs
 pub mod Picks
 pub mod Squares
-pub mod Newton
-pub mod Digits
+pub mod ThreeLaws
+pub mod Pairs
 pub mod Rounded
 pub mod Reading
 pub mod Writing

@@ -13,7 +13,7 @@ use mathlib.Core.Bool.{false, not}
 use lib.Dec.{T, leb, eqb, isLe, isEq, leb→le, nleb→lt, eqb→eq, lit<}
 use lib.Pow.{pow-add, pow-pos, pow-mono, pow-lt}
 use lib.Ieee.{Float, nan, inf, fin, Format, binary32, binary64, prec, emax, low, up, down, size, nearest, units, fits}
-use lib.Ieee.Digits.{size-reaches, size-le}
+use lib.Ieee.Digits.{size-le}
 use lib.Ieee.Fits.{two, reach, two-le-pos, kept-lt, nearest-le}
 use lib.Ieee.Exact.{HasValue, units-val}
 use lib.Ieee.Positive.{value-pos}
@@ -21,7 +21,7 @@ use Rattle.floats.specs.Root.{floorRoot, roundRoot}
 use Rattle.floats.specs.Nearest.{NoNearer, CorrectlyRounded, NoTie}
 use Rattle.floats.proofs.Delivered.{root-fits}
 use Rattle.floats.proofs.Squares.{floor-root, sq-lt-back}
-use Rattle.floats.proofs.Rounded.{fromDigits, from-whole, InUnits, opened, not-zero}
+use Rattle.floats.proofs.Rounded.{leading, fromDigits, from-whole, InUnits, opened, not-zero}
 use Rattle.floats.proofs.Grid.{one-value, units-value, in-format, OnGrid, on-grid, has-units, gap}
 
 -- ---- what `nearest` picks
@@ -85,12 +85,10 @@ module _ (n q s y : ℕ) (lo : q * s * (q * s) ≤ n) (hi : n ≤ (q + 1) * s * 
 
 -- ---- q, the kept digits, has prec of them where any were dropped
 pub kept-ge : (p w : ℕ) → 0 < p → 0 < size w - p → 2 ^ (p - 1) ≤ w / 2 ^ (size w - p)
-kept-ge p w P K =
-    le-div-iff-mul-le (pow-pos (size w - p)) .1
-    (le-trans (le-of-eq (sym (pow-add 2 (p - 1) (size w - p)))) (size-reaches w (p - 1 + (size w - p)) (left (size w) K)))
+kept-ge p w P K = le-div-iff-mul-le (pow-pos (size w - p)) .1 (leading p w P (enough (size w) K))
   where
-    left : (z : ℕ) → 0 < z - p → p - 1 + (z - p) < z
-    left z h = omega arith
+    enough : (z : ℕ) → 0 < z - p → p ≤ z
+    enough z h = omega arith
 
 -- ---- the result against any value
 pub nearest-root : (f : Format) (num den n r y : ℕ) → 0 < den → num * (2 ^ low f * 2 ^ low f) ≡ n * den
@@ -180,10 +178,10 @@ finite-root f num den n D e h =
     )
 
 -- ---- the law
-squared : (f : Format) (x : Float) (y : ℕ) → HasValue x false y (2 ^ low f) → InUnits f x (y * 2 ^ low f)
-squared f nan y v = v
-squared f (inf s) y v = v
-squared f (fin s m e) y v = (
+pub units-squared : (f : Format) (x : Float) (y : ℕ) → HasValue x false y (2 ^ low f) → InUnits f x (y * 2 ^ low f)
+units-squared f nan y v = v
+units-squared f (inf s) y v = v
+units-squared f (fin s m e) y v = (
   v .0,
   sym (mul-assoc (m * up e) (2 ^ low f) (2 ^ low f)) ∙ ap (λ (z : ℕ). z * 2 ^ low f) (v .1)
       ∙ mul-right-comm y (down e) (2 ^ low f),
@@ -193,7 +191,7 @@ pub correctly-rounded : CorrectlyRounded
 correctly-rounded f x h p =
     let u = has-units f x h p in
     let n = u .0 * 2 ^ low f in
-    let v : InUnits f x n = squared f x (u .0) (u .1) in
+    let v : InUnits f x n = units-squared f x (u .0) (u .1) in
     let N : 0 < n = mul-pos (value-pos x (u .0) (2 ^ low f) p (pow-pos (low f)) (u .1)) (pow-pos (low f)) in
     let o = opened f x n v N in
     let k = finite-root f (o .0) (o .1) n (o .2) (o .3) (bounded f x n h v N) in (
@@ -252,7 +250,7 @@ no-tie f x n r y hx p g ne e =
     let l = 2 ^ low f in
     let u = has-units f x hx p in
     let (m, j, M, u-is) = on-grid f x (u .0) hx (u .1) in
-    let n-is : n ≡ u .0 * l = one-value x false n (u .0 * l) (l * l) (g .number) (squared f x (u .0) (u .1)) in
+    let n-is : n ≡ u .0 * l = one-value x false n (u .0 * l) (l * l) (g .number) (units-squared f x (u .0) (u .1)) in
     let (h, twice, h-is) = halved (r + y) n e in
     let square : h * h ≡ m * 2 ^ (j + low f) =
     h-is ∙ n-is ∙ ap (λ (a : ℕ). a * l) u-is ∙ mul-assoc m (2 ^ j) l ∙ ap (λ (a : ℕ). m * a) (sym (pow-add 2 j (low f))) in

@@ -1,11 +1,12 @@
 -- The whole root of a number, as `floorRoot` computes it, and how squares decide where a root lies. Nothing here is about floats.
-use mathlib.Core.Path.{_≡_, refl, sym, ap, _∙_}
+use mathlib.Core.Path.{_≡_, refl, sym, ap, _∙_, subst}
 use Prim.Native.Nat.{ℕ, zero, suc, _+_, _*_, _/_, _^_, _≤_, _<_, compare, Ordering, Ordering·lt, Ordering·eq, Ordering·gt}
-use native.Mathlib.Nat.{le-trans, le-of-eq, lt-of-lt-of-le, lt-of-le-of-lt, lt-of-not-le, not-le-of-lt, mul-le-mul}
-use native.Mathlib.Nat.{mul-lt-mul-of-pos-right, mul-pos, div-lt-iff-lt-mul, zero-lt-suc, pow-suc}
+use native.Mathlib.Nat.{le-trans, le-of-eq, le-antisymm, lt-of-lt-of-le, lt-of-le-of-lt, lt-of-not-le, not-le-of-lt, mul-le-mul}
+use native.Mathlib.Nat.{mul-le-mul-right, mul-lt-mul-of-pos-right, mul-pos, div-lt-iff-lt-mul, zero-lt-suc, pow-suc}
+use native.Mathlib.Decide.{decLe}
 use native.Mathlib.Omega.{arith}
 use mathlib.Core.Bool.{Bool, true, false, not, cond}
-use lib.Dec.{T, leb, isLe, isEq, leb→le, nleb→lt, eqb→eq}
+use lib.Dec.{T, leb, isLe, isEq, eqb, leb→le, nleb→lt, eqb→eq, eqb-refl}
 use lib.Ieee.{size}
 use lib.Ieee.Digits.{size-lt}
 use Rattle.floats.specs.Root.{WholeRoot, raised, rootOfPairs, floorRoot}
@@ -54,38 +55,29 @@ root-ge n w a h l = let k : a < w + 1 = sq-lt-back a (w + 1) (lt-of-le-of-lt l (
 pub root-lt : (n w b : ℕ) → WholeRoot n w → n < b * b → w < b
 root-lt n w b h l = sq-lt-back w b (lt-of-le-of-lt (h .reached) l)
 
--- ---- with n = (q * q + t) * s * s and t at most 2 * q: q times s is at most the root of n, and q + 1 times s is above it
-pub under : (n q t s : ℕ) → n ≡ (q * q + t) * (s * s) → q * s * (q * s) ≤ n
-under n q t s e = omega arith
+-- a number has one whole root
+pub one-whole-root : (n r s : ℕ) → WholeRoot n r → WholeRoot n s → r ≡ s
+one-whole-root n r s g h = le-antisymm (root-ge n s r h (g .reached)) (root-ge n r s g (h .reached))
 
-pub over : (n q t s : ℕ) → 0 < s → n ≡ (q * q + t) * (s * s) → t ≤ 2 * q → n < (q + 1) * s * ((q + 1) * s)
-over n q t s S e h =
-    let a : (q * q + t) * (s * s) < (q + 1) * (q + 1) * (s * s) = mul-lt-mul-of-pos-right (omega arith) (mul-pos S S) in
-    omega arith
+-- ---- with 4 * n = m * s * s and root the whole root of m: half of root, times s, is at most the root of n, and one more than that half,
+-- times s, is above it
+pub half-under : (n m root s : ℕ) → WholeRoot m root → 4 * n ≡ m * (s * s) → root / 2 * s * (root / 2 * s) ≤ n
+half-under n m root s w e = go (root / 2) (omega arith)
+  where
+    go : (q : ℕ) → 2 * q ≤ root → q * s * (q * s) ≤ n
+    go q h =
+        let a : 2 * q * (2 * q) ≤ m = le-trans (mul-le-mul h h) (w .reached) in
+        let b : 2 * q * (2 * q) * (s * s) ≤ m * (s * s) = mul-le-mul-right (s * s) a in
+        omega arith
 
--- and t says on which side of the mid-point of the two the root of m / den lies, where that is n: both sides are doubled and squared
-module _ (n den m q t s : ℕ) (S : 0 < s) (D : 0 < den) (e : m ≡ n * den) (f : n ≡ (q * q + t) * (s * s)) where
-  doubled : 4 * m ≡ 4 * (q * q + t) * (s * s * den)
-  doubled = ap (λ (x : ℕ). 4 * x) (e ∙ ap (λ (x : ℕ). x * den) f) ∙ same
-    where
-      same : 4 * ((q * q + t) * (s * s) * den) ≡ 4 * (q * q + t) * (s * s * den)
-      same = omega arith
-
-  middle : (2 * q + 1) * s * ((2 * q + 1) * s) * den ≡ (2 * q + 1) * (2 * q + 1) * (s * s * den)
-  middle = omega arith
-
-  scale : 0 < s * s * den
-  scale = mul-pos (mul-pos S S) D
-
-  pub mid-above : t ≤ q → 4 * m < (2 * q + 1) * s * ((2 * q + 1) * s) * den
-  mid-above h =
-      let a : 4 * (q * q + t) < (2 * q + 1) * (2 * q + 1) = omega arith in
-      lt-of-le-of-lt (le-of-eq doubled) (lt-of-lt-of-le (mul-lt-mul-of-pos-right a scale) (le-of-eq (sym middle)))
-
-  pub mid-below : q < t → (2 * q + 1) * s * ((2 * q + 1) * s) * den < 4 * m
-  mid-below h =
-      let a : (2 * q + 1) * (2 * q + 1) < 4 * (q * q + t) = omega arith in
-      lt-of-le-of-lt (le-of-eq middle) (lt-of-lt-of-le (mul-lt-mul-of-pos-right a scale) (le-of-eq (sym doubled)))
+pub half-over : (n m root s : ℕ) → 0 < s → WholeRoot m root → 4 * n ≡ m * (s * s) → n < (root / 2 + 1) * s * ((root / 2 + 1) * s)
+half-over n m root s S w e = go (root / 2) (omega arith)
+  where
+    go : (q : ℕ) → root + 1 ≤ 2 * q + 2 → n < (q + 1) * s * ((q + 1) * s)
+    go q h =
+        let a : m < (2 * q + 2) * (2 * q + 2) = lt-of-lt-of-le (w .not-passed) (mul-le-mul h h) in
+        let b : m * (s * s) < (2 * q + 2) * (2 * q + 2) * (s * s) = mul-lt-mul-of-pos-right a (mul-pos S S) in
+        omega arith
 
 -- ---- what `compare` gives
 pub compare-lt : (a b : ℕ) → a < b → compare a b ≡ Ordering·lt
@@ -112,3 +104,26 @@ compare-gt a b h = go (compare a b) (leb→le a b)
     go Ordering·lt k = absurd (not-le (k tt))
     go Ordering·eq k = absurd (not-le (k tt))
     go Ordering·gt k = refl
+
+pub compare-same : (a b : ℕ) → a ≡ b → compare a b ≡ Ordering·eq
+compare-same a b e = go (compare a b) (subst (λ (x : ℕ). T (eqb a x)) e (eqb-refl a))
+  where
+    go : (o : Ordering) → T (isEq o) → o ≡ Ordering·eq
+    go Ordering·lt k = absurd k
+    go Ordering·eq k = refl
+    go Ordering·gt k = absurd k
+
+-- both sides times the same
+pub compare-times : (a b c : ℕ) → 0 < c → compare (a * c) (b * c) ≡ compare a b
+compare-times a b c C = go (decLe a b) (decLe b a)
+  where
+    go : Dec (a ≤ b) → Dec (b ≤ a) → compare (a * c) (b * c) ≡ compare a b
+    go (yes h) (yes k) =
+        let e : a ≡ b = le-antisymm h k in
+        compare-same (a * c) (b * c) (ap (λ (x : ℕ). x * c) e) ∙ sym (compare-same a b e)
+    go (yes h) (no k) =
+        let l : a < b = lt-of-not-le k in
+        compare-lt (a * c) (b * c) (mul-lt-mul-of-pos-right l C) ∙ sym (compare-lt a b l)
+    go (no h) k =
+        let l : b < a = lt-of-not-le h in
+        compare-gt (a * c) (b * c) (mul-lt-mul-of-pos-right l C) ∙ sym (compare-gt a b l)

@@ -1,67 +1,78 @@
--- The steps of `root_pattern`, put together: the pattern that it returns is that of the root.
-use mathlib.Core.Path.{_≡_, sym, ap, _∙_}
-use Prim.Native.Nat.{ℕ, suc, _+_, _-_, _*_, _^_, _≤_, _<_}
-use native.Mathlib.Numerals.{add-one}
+-- The steps of `root_pattern`, put together: the pattern that it returns is that of the root. The 54 digits that are extracted are those
+-- of the root of a * 4 ^ 27, so without the last one they are the 53 that an f64 keeps.
+use mathlib.Core.Path.{_≡_, sym, ap, _∙_, subst}
+use Prim.Native.Nat.{ℕ, suc, _+_, _-_, _*_, _/_, _^_, _≤_, _<_, compare}
+use native.Mathlib.Nat.{add-zero}
 use native.Mathlib.Omega.{arith}
-use mathlib.Core.Bool.{false}
 use lib.Pow.{pow-add}
+use mathlib.Core.Bool.{false}
 use lib.Ieee.{binary64, units, ofBits}
-use Rattle.floats.specs.Root.{WholeRoot, rootOf}
-use Rattle.floats.specs.Steps.{Scaling, Extended, RootPattern}
+use lib.Ieee.Fits.{nearest-le}
+use lib.Ieee.Nearest.{nearest-ge}
+use Rattle.floats.specs.Root.{WholeRoot}
+use Rattle.floats.specs.Schoolbook.{Extracted, roundedOff}
+use Rattle.floats.specs.Steps.{Scaling, RootPattern}
 use Rattle.floats.proofs.Squares.{root-ge, root-lt}
-use Rattle.floats.proofs.Rounded.{root-lower, root-upper}
+use Rattle.floats.proofs.ThreeLaws.{root-so-far, rounded-by}
+use Rattle.floats.proofs.Rounded.{root-rounded}
 use Rattle.floats.proofs.Writing.{pack, pack-no-nan}
 
--- w, the whole root of a, has 27 binary digits
-pub half-size : {b a h : ℕ} (w : ℕ) → Scaling b a h → WholeRoot a w → (w < 2 ^ 27) × (2 ^ 26 ≤ w)
-half-size {a = a} w s r = (root-lt a w (2 ^ 27) r (s .below), root-ge a w (2 ^ 26) r (s .at-least))
+-- ---- the digits of a, and as many zeros behind them
+from-none : (a root rest : ℕ) → Extracted ((0 * 0 + 0) * 2 ^ 54 + a) root rest → Extracted a root rest
+from-none a root rest e = subst (λ (n : ℕ). Extracted n root rest) (omega arith) e
 
-pub rest-le : (a w : ℕ) → WholeRoot a w → a - w * w ≤ 2 * w
-rest-le a w r = omega arith
+pub first-size : (a root rest : ℕ) → a < 2 ^ 54 → Extracted ((0 * 0 + 0) * 2 ^ 54 + a) root rest → root < 2 ^ 27
+first-size a root rest A e = root-lt a root (2 ^ 27) (root-so-far a root rest (from-none a root rest e)) A
 
--- q, with 26 digits more, has 53
-pub full-size : {b a h w q t : ℕ} → Scaling b a h → WholeRoot a w → Extended (2 ^ 26) w (a - w * w) q t → (2 ^ 52 ≤ q) × (q < 2 ^ 53)
-full-size {w = w} s r e = let k = half-size w s r in omega arith
+pub both : (a first left root rest : ℕ) → Extracted ((0 * 0 + 0) * 2 ^ 54 + a) first left
+    → Extracted ((first * first + left) * 2 ^ 54 + 0) root rest → Extracted (a * 2 ^ 54) root rest
+both a first left root rest e g =
+    subst (λ (n : ℕ). Extracted n root rest)
+    (ap (λ (n : ℕ). n * 2 ^ 54 + 0) (from-none a first left e .parts) ∙ add-zero (a * 2 ^ 54)) g
 
--- a * 4 ^ h is (a * 4 ^ 26) * 4 ^ k, for the k with h = 26 + k
-scaled : (a h w q t : ℕ) → 26 ≤ h → WholeRoot a w → Extended (2 ^ 26) w (a - w * w) q t
-    → a * (2 ^ h * 2 ^ h) ≡ (q * q + t) * (2 ^ (h - 26) * 2 ^ (h - 26))
-scaled a h w q t H r e =
-    ap (λ (p : ℕ). a * (p * p)) (ap (λ (k : ℕ). 2 ^ k) split ∙ pow-add 2 26 (h - 26))
-    ∙ same (2 ^ 26) (2 ^ (h - 26))
-    ∙ ap (λ (n : ℕ). n * (2 ^ (h - 26) * 2 ^ (h - 26))) (sym (e .parts ∙ ap (λ (n : ℕ). n * (2 ^ 26 * 2 ^ 26)) joined))
+-- ---- the root in the units of an f64
+-- a * 4 ^ h is a * 4 ^ 27 over 4, times 4 ^ k, for the k with h = 26 + k
+scaled : (a h : ℕ) → 26 ≤ h → 4 * (a * (2 ^ h * 2 ^ h)) ≡ a * 2 ^ 54 * (2 ^ (h - 26) * 2 ^ (h - 26))
+scaled a h H =
+    ap (λ (p : ℕ). 4 * (a * (p * p))) (ap (λ (k : ℕ). 2 ^ k) split ∙ pow-add 2 26 (h - 26)) ∙ same (2 ^ (h - 26))
   where
     split : h ≡ 26 + (h - 26)
     split = omega arith
 
-    joined : w * w + (a - w * w) ≡ a
-    joined = omega arith
+    same : (s : ℕ) → 4 * (a * (2 ^ 26 * s * (2 ^ 26 * s))) ≡ a * 2 ^ 54 * (s * s)
+    same s = omega arith
 
-    same : (p s : ℕ) → a * (p * s * (p * s)) ≡ a * (p * p) * (s * s)
-    same p s = omega arith
+rounded-size : (n root : ℕ) → WholeRoot n root → (root / 2 ≤ roundedOff n) × (roundedOff n ≤ root / 2 + 1)
+rounded-size n root w =
+    let side = compare n ((2 * (root / 2) + 1) * (2 * (root / 2) + 1)) in
+    rw (rounded-by n root w) (nearest-ge (root / 2) side, omega (arith, nearest-le (root / 2) side))
 
-module _ {b a h w q t : ℕ} (s : Scaling b a h) (r : WholeRoot a w) (e : Extended (2 ^ 26) w (a - w * w) q t) where
-  sized : (2 ^ 52 ≤ q) × (q < 2 ^ 53)
-  sized = full-size s r e
+module _ {b a h root rest : ℕ} (s : Scaling b a h) (e : Extracted (a * 2 ^ 54) root rest) where
+  whole : WholeRoot (a * 2 ^ 54) root
+  whole = root-so-far (a * 2 ^ 54) root rest e
 
-  in-range : suc (suc (h - 26)) < 2047
-  in-range = omega arith
+  -- the root that is extracted has 54 digits
+  sized : (2 ^ 53 ≤ root) × (root < 2 ^ 54)
+  sized = (root-ge (a * 2 ^ 54) root (2 ^ 53) whole (omega arith), root-lt (a * 2 ^ 54) root (2 ^ 54) whole (omega arith))
 
-  -- a root of p units, p a number of 53 digits or the next one
-  written : (p : ℕ) → 2 ^ 52 ≤ p → p ≤ 2 ^ 53 → rootOf binary64 (ofBits binary64 b) ≡ units binary64 false p (h - 26)
-      → RootPattern b ((h - 26) * 2 ^ 52 + p)
-  written p lo hi is =
-      record { root = pack binary64 p (h - 26) lo hi in-range ∙ sym is; no-nan = pack-no-nan binary64 p (h - 26) lo hi in-range }
+  -- r, what `round_off` gives of the 54 digits
+  module _ (r : ℕ) (is : r ≡ roundedOff (root * root + rest)) where
+    rounded : r ≡ roundedOff (a * 2 ^ 54)
+    rounded = is ∙ ap roundedOff (e .parts)
 
-  pub kept : t ≤ q → RootPattern b ((h - 26) * 2 ^ 52 + q)
-  kept l =
-      written q (sized .0) (omega (arith, sized .1))
-      (root-lower binary64 (ofBits binary64 b) (a * (2 ^ h * 2 ^ h)) (h - 26) q t (s .value) (scaled a h w q t (s .from) r e) (sized .0)
-      (sized .1) l)
+    pub rounded-sized : (2 ^ 52 ≤ r) × (r ≤ 2 ^ 53)
+    rounded-sized = rw rounded (omega (arith, sized, rounded-size (a * 2 ^ 54) root whole))
 
-  pub carried : q < t → RootPattern b ((h - 26) * 2 ^ 52 + (q + 1))
-  carried l =
-      rw (add-one q)
-      (written (suc q) (omega (arith, sized .0)) (sized .1)
-      (root-upper binary64 (ofBits binary64 b) (a * (2 ^ h * 2 ^ h)) (h - 26) q t (s .value) (scaled a h w q t (s .from) r e) (sized .0)
-      (sized .1) (e .small) l))
+    in-range : suc (suc (h - 26)) < 2047
+    in-range = omega arith
+
+    pub pattern-is : RootPattern b ((h - 26) * 2 ^ 52 + r)
+    pattern-is =
+        let n = a * (2 ^ h * 2 ^ h) in
+        let exact = scaled a h (s .from) in
+        let root-is = root-rounded binary64 (ofBits binary64 b) n (a * 2 ^ 54) (h - 26) root (s .value) exact whole (sized .0) (sized .1) in
+        record {
+          root = pack binary64 r (h - 26) (rounded-sized .0) (rounded-sized .1) in-range
+              ∙ ap (λ (q : ℕ). units binary64 false q (h - 26)) rounded ∙ sym root-is;
+          no-nan = pack-no-nan binary64 r (h - 26) (rounded-sized .0) (rounded-sized .1) in-range;
+        }

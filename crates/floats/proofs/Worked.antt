@@ -1,10 +1,12 @@
 -- Roots worked out from the definition: the row of SCOPE 16, the root of the least positive f64, and the rules of SCOPE 5 for -0,
--- a negative number and +infinity.
+-- a negative number and +infinity; and the root of 2 by the schoolbook.
 use mathlib.Core.Path.{_≡_, refl}
 use lib.IntN.{negsuc}
 use mathlib.Core.Bool.{false}
+use lib.Dec.{lit≤}
 use lib.Ieee.{nan, fin, binary64, ofBits, toBits}
 use Rattle.floats.specs.Root.{rootOf}
+use Rattle.floats.specs.Schoolbook.{Extracted, roundedOff}
 
 -- the least positive f64 is 2 ^ -1074; `negsuc 536` is -537
 least-positive : rootOf binary64 (ofBits binary64 1) ≡ fin false 1 (negsuc 536)
@@ -33,3 +35,22 @@ two = refl
 below-one : toBits binary64 (rootOf binary64 (ofBits binary64 0x3fef_ffff_ffff_ffff)) ≡ 0x3fef_ffff_ffff_ffff
 unfolding ofBits rootOf toBits
 below-one = refl
+
+-- ---- the root of 2 digit by digit: the lines of src/schoolbook.rt, each with all that was brought down, root and remainder
+by-digits : Extracted 2 1 1 × Extracted 8 2 4 × Extracted 32 5 7 × Extracted 128 11 7
+    × Extracted 512 22 28 × Extracted 2048 45 23 × Extracted 8192 90 92 × Extracted 32768 181 7
+by-digits = (
+  record { parts = refl; small = lit≤ tt },
+  record { parts = refl; small = lit≤ tt },
+  record { parts = refl; small = lit≤ tt },
+  record { parts = refl; small = lit≤ tt },
+  record { parts = refl; small = lit≤ tt },
+  record { parts = refl; small = lit≤ tt },
+  record { parts = refl; small = lit≤ tt },
+  record { parts = refl; small = lit≤ tt },
+)
+
+-- with the last of the eight digits rounded off
+rounded-off : roundedOff 32768 ≡ 91
+unfolding roundedOff
+rounded-off = refl

@@ -3,4 +3,5 @@ pub mod Pick
 pub mod Root
 pub mod Nearest
 pub mod Length
+pub mod Schoolbook
 pub mod Steps

@@ -1,7 +1,7 @@
--- What the steps of `root` promise: the number as a whole number, the digits of its root with the remainder, the root's pattern.
+-- What the steps of `root` promise beside those of the schoolbook: the number as a whole number, and the root's pattern.
 use mathlib.Core.Path.{_≡_}
 use mathlib.Core.Bool.{false}
-use Prim.Native.Nat.{ℕ, _+_, _*_, _^_, _≤_, _<_}
+use Prim.Native.Nat.{ℕ, _*_, _^_, _≤_, _<_}
 use lib.Ieee.{binary64, ofBits, nanBits}
 use lib.Ieee.Exact.{HasValue}
 use Rattle.floats.specs.Root.{rootOf}
@@ -13,13 +13,6 @@ pub record Scaling (b a h : ℕ) : Type 0 where
   pub below : a < 2 ^ 54
   pub from : 26 ≤ h
   pub up-to : h ≤ 1560
-
--- root is the whole root of (w * w + t) * B * B, with rest left over: w, the whole root of w * w + t, with one more digit in base B
-pub record Extended (B w t root rest : ℕ) : Type 0 where
-  pub parts : root * root + rest ≡ (w * w + t) * (B * B)
-  pub small : rest ≤ 2 * root
-  pub at-least : w * B ≤ root
-  pub below : root + 1 ≤ (w + 1) * B
 
 -- r is the pattern of the root of the number whose pattern is b, and no NaN's
 pub record RootPattern (b r : ℕ) : Type 0 where

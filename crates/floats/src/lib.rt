@@ -1,4 +1,5 @@
 // The leaves on f64: magnitude, min, max, the square root and the length of a pair, and the bit pattern of a number.
+pub mod schoolbook;
 pub mod square;
 
 ghost use mathlib.Core.Path.{_≡_};

@@ -1,52 +1,54 @@
--- `floats::square::root_pattern` meets its contract: the whole root of the scaled number and the digits added to it are the first 53 of the
--- root, and where the rest is above them the root lies past the middle to the next value (proofs/Steps.antt).
-use Prim.Native.Nat.{_^_, _≤_, _<_}
+-- `floats::square::root_pattern` meets its contract: the digits of the scaled number, and as many zeros behind them, give 54 digits of
+-- the root, and with the last one rounded off they are those of the nearest f64 (proofs/Steps.antt).
+use Prim.Native.Nat.{_*_, _^_}
 use native.Mathlib.Omega.{arith}
 use borrow.Author.Needs.{needs}
-use Rattle.floats.proofs.Steps.{half-size, rest-le, full-size, kept, carried}
+use Rattle.floats.specs.Schoolbook.{Extracted}
+use Rattle.floats.proofs.Steps.{first-size, both, rounded-sized, pattern-is}
 use Rattle.floats.proofs.square.root_pattern.Statement.{statement}
 use Rattle.floats.proofs.square.root_pattern.Tie as tie
 
--- the root that is found has 53 digits
-sized : (c : tie.After-more-digits) → (2 ^ 52 ≤ c .more-digits .result .root) × (c .more-digits .result .root < 2 ^ 53)
-sized c = full-size (c .before .before .scale .ensures) (c .before .whole-root .ensures) (c .more-digits .ensures)
+-- all 54 digits, of the root of a * 4 ^ 27
+extracted : (c : tie.After-extract2)
+    → Extracted (c .before .before .scale .result .a * 2 ^ 54) (c .extract2 .result .root) (c .extract2 .result .rest)
+extracted c =
+    let scale = c .before .before .scale in
+    let first = c .before .extract in
+    both (scale .result .a) (first .result .root) (first .result .rest) (c .extract2 .result .root) (c .extract2 .result .rest)
+    (first .ensures) (c .extract2 .ensures)
 
-more-digits-requires : tie.Need-more-digits-requires
-more-digits-requires c κs =
+more-requires : tie.Need-extract-requires-2
+more-requires c κs =
     let scale = c .before .scale in
-    let h = half-size (c .whole-root .result) (scale .ensures) (c .whole-root .ensures) in
-    (h .0, (h .1, rest-le (scale .result .a) (c .whole-root .result) (c .whole-root .ensures)))
+    let first = c .extract in (
+      first-size (scale .result .a) (first .result .root) (first .result .rest) (scale .ensures .below) (first .ensures),
+      (first .ensures .small, omega arith),
+    )
 
-one-more : tie.Need-add-result
-one-more c = omega (arith, sized (c .before))
+round-off-requires : tie.Need-round-off-requires
+round-off-requires c κs = extracted (c .before) .small
 
-up-fits : tie.Need-add-result-2
-up-fits c = omega (arith, sized (c .before))
+pattern-fits : tie.Need-add-result
+pattern-fits c =
+    let scale = c .before .before .before .before .scale in
+    let digits = extracted (c .before .before) in
+    omega (arith, rounded-sized (scale .ensures) digits (c .round-off .result) (c .round-off .ensures))
 
-down-fits : tie.Need-add-result-3
-down-fits c = omega (arith, sized (c .before))
-
-rounded-up : tie.Need-returns
-rounded-up c =
-    let whole-root = c .before .before .whole-root in
-    let scale = c .before .before .before .scale in
-    carried (scale .ensures) (whole-root .ensures) (c .before .more-digits .ensures) (c .if1 .taken)
-
-rounded-down : tie.Need-returns-2
-rounded-down c =
-    let whole-root = c .before .before .whole-root in
-    let scale = c .before .before .before .scale in
-    kept (scale .ensures) (whole-root .ensures) (c .before .more-digits .ensures) (c .if1 .left)
+returns : tie.Need-returns
+returns c =
+    let scale = c .before .before .before .before .scale in
+    let digits = extracted (c .before .before) in
+    pattern-is (scale .ensures) digits (c .round-off .result) (c .round-off .ensures)
 
 pub root-pattern-spec : {M : Type 1} → statement M
 root-pattern-spec =
     tie.close
     (tie.spec
-    (λ c κs. search needs) (λ c κs. search needs) (λ c. search needs) (λ c. search needs)
-    more-digits-requires
-    (λ c. search needs) (λ c. search needs)
-    one-more
-    up-fits
-    down-fits
-    rounded-up
-    rounded-down)
+    (λ c κs. search needs)
+    (λ c κs. search needs)
+    more-requires
+    (λ c. search needs)
+    (λ c. search needs)
+    round-off-requires
+    pattern-fits
+    returns)

@@ -48,12 +48,13 @@ fn doubled_within(s: &[f64]) -> f64
 // A sum of squares from which on the root is above eps, so that it need not be taken: the root grows with the number.
 // The factor is far above all roundings, so a usual eps passes the test.
 // Where it does not, the answer is a NaN, which no sum reaches, and every root is taken.
+// The test itself takes no root but at the ends of the range, since that of the rounded square of h is the magnitude of h.
 fn sure_square(eps: f64) -> f64
     ensures { λ r. ⌜ Sure eps r ⌝ }
 {
     let h = eps * 1.0001;
     let s = h * h;
-    if floats::root(s) > eps {
+    if floats::root_of_square(h) > eps {
         return s;
     }
     0.0 / 0.0

@@ -47,7 +47,7 @@ in-format f s m e h =
     )
 
 -- ---- a value of the format is m * 2 ^ j units, for an m of at most prec digits
-pow-le-back : (a l : ℕ) → 2 ^ a ≤ 2 ^ l → a ≤ l
+pub pow-le-back : (a l : ℕ) → 2 ^ a ≤ 2 ^ l → a ≤ l
 pow-le-back a l h = let k : a < suc l = lt-of-not-le (λ (g : suc l ≤ a). not-le-of-lt (pow-lt g) h) in omega arith
 
 in-units : (f : Format) (m : ℕ) (e : ℤ) → down e ≤ 2 ^ low f → (j : ℕ) × (m * up e * 2 ^ low f ≡ m * 2 ^ j * down e)

@@ -13,6 +13,8 @@ pub mod Grid
 pub mod Delivered
 pub mod Nearest
 pub mod Monotone
+pub mod RootOfSquare
+pub mod SumOfSquares
 pub mod Order
 pub mod Within
 pub mod Worked

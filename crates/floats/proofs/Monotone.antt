@@ -76,7 +76,7 @@ largest-is (fin false m e) (fin false n d) a b c C v w = ap (λ (t : Bool). cond
         (sym (v .1)) h) C)))
         ∙ sym (lt-ltb a b (lt-of-not-le g))
 
-same-number : (f : Format) (x y : Float) (a c : ℕ) → 0 < c → T (fits f x) → T (fits f y) → HasValue x false a c → HasValue y false a c
+pub same-number : (f : Format) (x y : Float) (a c : ℕ) → 0 < c → T (fits f x) → T (fits f y) → HasValue x false a c → HasValue y false a c
     → x ≡ y
 unfolding toBits
 same-number f x y a c C hx hy v w = sym (ofBits-toBits f x hx) ∙ ap (ofBits f) (go x y v w) ∙ ofBits-toBits f y hy

@@ -40,8 +40,8 @@ bits-of f (fin s m e) n v =
     (ap (λ (z : ℕ). z / down e) (v .1) ∙ mul-div-cancel n (down-pos e))
     ∙ ap (λ (z : ℕ). z + n / 2 ^ (size n - prec f)) (zero-add ((size n - prec f) * hid f))
 
-twice : (p : ℕ) → 0 < p → 2 ^ p ≡ 2 * 2 ^ (p - 1)
-twice p h = ap (λ (x : ℕ). 2 ^ x) (sym (back p h)) ∙ pow-succ' 2 (p - 1)
+pub pow-pred : (p : ℕ) → 0 < p → 2 ^ p ≡ 2 * 2 ^ (p - 1)
+pow-pred p h = ap (λ (x : ℕ). 2 ^ x) (sym (back p h)) ∙ pow-succ' 2 (p - 1)
   where
     back : (p : ℕ) → 0 < p → suc (p - 1) ≡ p
     back p h = omega arith
@@ -57,10 +57,10 @@ written-in f q k lo hi =
 carried : (f : Format) (q k : ℕ) → q ≡ 2 ^ prec f → written f (q * 2 ^ k) ≡ k * hid f + q
 carried f q k e =
     let P : 0 < prec f = two-le-pos (prec f) (two f) in
-    let t : q ≡ 2 * hid f = e ∙ twice (prec f) P in
+    let t : q ≡ 2 * hid f = e ∙ pow-pred (prec f) P in
     ap (written f) (same q k (hid f) t)
     ∙ written-in f (hid f) (suc k) (le-refl (hid f)) (lt-of-lt-of-le (grows (hid f) (pow-pos (prec f - 1)))
-    (le-of-eq (sym (twice (prec f) P))))
+    (le-of-eq (sym (pow-pred (prec f) P))))
     ∙ regroup k (hid f) q t
   where
     grows : (h : ℕ) → 0 < h → h < 2 * h

@@ -4,7 +4,7 @@ pub mod square;
 
 ghost use mathlib.Core.Path.{_≡_};
 ghost use mathlib.Core.Bool.{false};
-ghost use lib.Ieee.{binary64, isNan, ofBits, toBits};
+ghost use lib.Ieee.{binary64, mul, isNan, ofBits, toBits};
 ghost use Rattle.floats.specs.Pick.{magnitudeOf, leastOf, largestOf};
 ghost use Rattle.floats.specs.Root.{rootOf};
 ghost use Rattle.floats.specs.Length.{lengthOf};
@@ -85,12 +85,35 @@ pub fn root(x: f64) -> f64
     f64::from_bits(square::root_pattern(b))
 }
 
-// hypot(x, y), as SCOPE 1 has it.
+// The root of the rounded square of x. Where that square is finite and above the least normal value, the root is the magnitude of x
+// (proofs/RootOfSquare.antt), and no digit need be extracted; the test stays well within these ends.
+// Rules out: the magnitude where the square underflows or overflows.
+pub fn root_of_square(x: f64) -> f64
+    ensures { λ r. ⌜ r ≡ rootOf binary64 (mul binary64 x x) ⌝ }
+{
+    let s = x * x;
+    if 1e-300 <= s && s <= 1e300 {
+        return magnitude(x);
+    }
+    root(s)
+}
+
+// hypot(x, y), as SCOPE 1 has it. Where one square vanishes beside the other, as for the normal of a face along an axis, the sum is that
+// other square, whose root `root_of_square` mostly finds without a digit extracted.
 // Rules out: squares and sum fused into one rounding; a length scaled beforehand, so that large squares do not overflow.
 pub fn length(x: f64, y: f64) -> f64
     ensures { λ r. ⌜ r ≡ lengthOf x y ⌝ }
 {
-    root(x * x + y * y)
+    let a = x * x;
+    let b = y * y;
+    let s = a + b;
+    if s == a {
+        return root_of_square(x);
+    }
+    if s == b {
+        return root_of_square(y);
+    }
+    root(s)
 }
 
 // The bit pattern of any number, one pattern for every NaN.

@@ -8,7 +8,7 @@ use Rattle.clip_step.proofs.doubled.sure_square.Tie as tie
 square-passes : tie.Need-returns
 square-passes c =
     let args = c .before .before .args in
-    sure-of (args .eps) _ (rw (← c .before .root .ensures) (c .if1 .taken))
+    sure-of (args .eps) _ (rw (← c .before .root-of-square .ensures) (c .if1 .taken))
 
 nan-answered : tie.Need-returns-2
 nan-answered c =

@@ -65,7 +65,7 @@ def row(programs, cells, folder):
     if texts[0] != texts[1]:
         sys.exit(f"the two reports differ on {cells} cells")
     first, second = (statistics.median(side) for side in zip(*times))
-    print(f"{'report':28} {cells:6} cells {size:7.1f} MB {size / first:8.0f} MB/s {size / second:8.0f} MB/s {first / second:10.2f}")
+    print(f"{'report':34} {cells:6} cells {size:7.1f} MB {size / first:8.0f} MB/s {size / second:8.0f} MB/s {first / second:10.2f}")
 
 
 def asked():

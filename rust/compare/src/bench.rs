@@ -135,7 +135,7 @@ impl Table {
         println!("growth: the power of the size by which the time grew since the row above;");
         println!("a / b: the Rust has no a, and in its columns stands our own b");
         println!(
-            "{:28} {:>6} {:>12} {:>12} {:>10} {:>11} {:>8} {:>8}",
+            "{:34} {:>6} {:>12} {:>12} {:>10} {:>11} {:>8} {:>8}",
             "entry", "size", "ours", "Rust", "ours/Rust", "from lists", "growth", "Rust's"
         );
     }
@@ -186,7 +186,7 @@ impl Row {
             None => [const { String::new() }; 2],
         };
         println!(
-            "{name:28} {size:>6} {:12.1} {:12.1} {:10.2} {from_lists:>11} {growth:>8} {by_rust:>8}",
+            "{name:34} {size:>6} {:12.1} {:12.1} {:10.2} {from_lists:>11} {growth:>8} {by_rust:>8}",
             self.ours, self.rust, self.ratio
         );
     }

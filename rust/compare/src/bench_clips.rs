@@ -9,7 +9,8 @@ use oracle::plain as rust;
 use crate::bench::Table;
 use crate::bench_cells::all_cells;
 use crate::bench_lists::in_space;
-use crate::cells::Cell;
+use crate::cells::{self, Cell};
+use crate::random::Random;
 use crate::{faces, ours, retold};
 
 /// Points of both outlines of the plane.
@@ -48,8 +49,11 @@ pub fn add_rows(table: &mut Table) {
     add_pairs!(table, clip_convex, [0; 2]);
     add_pairs!(table, convex_intersection_area, [0.0]);
     for cell in &all_cells() {
-        add_overlap(table, cell);
+        add_overlap(table, "convex_intersection_volume", cell);
     }
+    // The plane of a face along an axis takes no root, and that of any other face takes one or two.
+    let tilted = cells::rotated(cells::unit_cube(), &mut Random::new(1));
+    add_overlap(table, "convex_intersection_volume, tilted", &tilted);
 }
 
 /// A face in the middle of a cell, which is moved so that some of its planes cut something off.
@@ -73,7 +77,7 @@ fn add_face(table: &mut Table, cell: &Cell, size: usize) {
 }
 
 /// A cell and itself moved by a part of its size.
-fn add_overlap(table: &mut Table, cell: &Cell) {
+fn add_overlap(table: &mut Table, entry: &'static str, cell: &Cell) {
     let other = moved(cell);
     let [mut first, mut second] = work_lists(3, retold::overlap(cell, &other).most);
     let own_forms =
@@ -81,7 +85,7 @@ fn add_overlap(table: &mut Table, cell: &Cell) {
     let by_rust = own_forms([cell, &other]);
     let mut out = [0.0];
     table.add_cell(
-        "convex_intersection_volume",
+        entry,
         cell.corners.len(),
         || {
             let (cell, other) = black_box((cell, &other));

@@ -93,6 +93,10 @@ fn patterns(count: u64, random: &mut Random) -> Vec<(&'static str, Vec<u64>)> {
             "beside boundaries at a carry",
             (1..count / 30).flat_map(beside_a_carry).collect(),
         ),
+        (
+            "squares beside 1e-300 and 1e300",
+            many(count / 30, || beside_an_end(random)),
+        ),
     ]
 }
 
@@ -184,6 +188,12 @@ fn beside_a_carry(step: u64) -> [u64; 4] {
     [below, below + 1, above, above + 1]
 }
 
+/// Numbers whose squares lie beside 1e-300 and 1e300: between these ends `length` takes no root where one
+/// of its squares vanishes beside the other.
+fn beside_an_end(random: &mut Random) -> [u64; 2] {
+    [1e-150, 1e150].map(|root: f64| root.to_bits() - 100 + random.below(200) as u64)
+}
+
 /// The pattern of the value nearest to m / 2^(2j) from below, for m of up to 106 binary digits.
 fn from_digits(m: u128, j: i32) -> u64 {
     let more = (128 - m.leading_zeros() as i32 - 53).max(0);
@@ -192,14 +202,15 @@ fn from_digits(m: u128, j: i32) -> u64 {
 }
 
 /// A number whose size is close to that of another, or that one itself, or its negation, so that sums,
-/// ties and comparisons are close.
+/// ties and comparisons are close; or a zero, beside which the other is alone.
 fn beside(pattern: u64, random: &mut Random) -> u64 {
-    match random.below(6) {
+    match random.below(7) {
         0 => pattern,
         1 => pattern ^ SIGN,
         2 => pattern.wrapping_add(1),
         3 => (pattern & !(DIGITS - 1)) | any_digits(random),
         4 => pattern.wrapping_add((random.below(60) as u64) << 52),
+        5 => random.bits() & SIGN,
         _ => random.bits(),
     }
 }

@@ -261,11 +261,13 @@ static void put_box(struct cell *cell, int n)
     }
 }
 
-/* Turns a cell by a sixth of a circle about (1, 1, 1), so that no axis stays one. */
+/* Turns a cell by 0.3 about the third axis and then by a sixth of a circle about (1, 1, 1): every normal of a prism of 4
+ * sides has three parts then. */
 static void tilt(struct cell *cell)
 {
     for (size_t k = 0; k < cell->coords_len; k += 3) {
-        double *p = cell->coords + k, x = p[0], y = p[1], z = p[2];
+        double *p = cell->coords + k, z = p[2];
+        double x = cos(0.3) * p[0] - sin(0.3) * p[1], y = sin(0.3) * p[0] + cos(0.3) * p[1];
         p[0] = (2.0 * x - y + 2.0 * z) / 3.0;
         p[1] = (2.0 * x + 2.0 * y - z) / 3.0;
         p[2] = (2.0 * y + 2.0 * z - x) / 3.0;

@@ -74,7 +74,8 @@ def asked():
         return (OURS, RUST), "ours, the Rust, ours/Rust"
     if len(sys.argv) == 3:
         return (sys.argv[2], sys.argv[1]), "new, old, new/old"
-    raise SystemExit(__doc__)
+    print(__doc__.strip(), file=sys.stderr)
+    sys.exit(2)
 
 
 def main():

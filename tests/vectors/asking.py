@@ -17,7 +17,7 @@ ENTRY = {
     'newell_normal': (40, 3, 0), 'vertex_centroid': (41, 3, 0), 'list_bounds': (42, 6, 0), 'signed_area2': (43, 1, 0),
     'vertex_centroid2': (44, 2, 0), 'bounds2': (45, 4, 0), 'tet_volume': (50, 1, 0), 'wedge_volume': (51, 1, 0),
     'hex_volume': (52, 1, 0), 'tet_contains': (53, 0, 1), 'wedge_contains': (54, 0, 1), 'hex_contains': (55, 0, 1),
-    'magnitude': (60, 0, 0), 'least': (61, 0, 0), 'largest': (62, 0, 0), 'root': (63, 0, 0), 'length': (64, 0, 0),
+    'magnitude': (60, 0, 0), 'least': (61, 0, 0), 'largest': (62, 0, 0), 'root': (63, 0, 0), 'hypot': (64, 0, 0),
     'pattern': (65, 0, 0), 'of_pattern': (66, 0, 0), 'cross2': (70, 0, 0), 'dominant_axis': (71, 0, 0),
     'plane_same_side': (72, 0, 0), 'plane_coplanar_opposite': (73, 0, 0), 'project2': (74, 2, 0),
     'segment_intersection': (75, 2, 0), 'segment_plane_intersection': (76, 3, 0), 'into_ccw': (80, 0, 0),
@@ -100,13 +100,17 @@ def flat(vertices):
     return [float(x) for v in vertices for x in v]
 
 
+def oracle_program(name):
+    """The path of a program of rust/oracle, which is built first."""
+    subprocess.run(['cargo', 'build', '--release', '--offline', '--quiet'], cwd=ORACLE, check=True)
+    return os.path.join(os.environ.get('CARGO_TARGET_DIR', os.path.join(ORACLE, 'target')), 'release', name)
+
+
 class Oracle:
     """The Rust, behind its line protocol."""
 
     def __init__(self):
-        subprocess.run(['cargo', 'build', '--release', '--offline', '--quiet'], cwd=ORACLE, check=True)
-        binary = os.path.join(os.environ.get('CARGO_TARGET_DIR', os.path.join(ORACLE, 'target')), 'release', 'oracle')
-        self.rust = subprocess.Popen([binary], stdin=subprocess.PIPE, stdout=subprocess.PIPE, text=True)
+        self.rust = subprocess.Popen([oracle_program('oracle')], stdin=subprocess.PIPE, stdout=subprocess.PIPE, text=True)
 
     def ask(self, name, words, build='plain'):
         """The words of the answer. Planes, and what rests on them, are asked of the build `ruled`, the tests of a cut of `counted`."""

@@ -347,14 +347,27 @@ def damaged(oracle, rng):
     return out
 
 
+def small_norms():
+    """Triangles whose planes have a norm at the lower end, as cells of two faces, one against the other. Down to 2^-1024 the inverse of
+    the norm overflows; the norm after that is the first of which it does not, and there are norms that the unmodified Rust rounds to the
+    other one of the two."""
+    origin, e, f = (0.0, 0.0, 0.0), 2.0 ** -512, 2.0 ** -537
+    above = [origin, (e, 0.0, 0.0), (0.0, e, (2.0 ** 25 + 1) * 2.0 ** -562)]
+    at = [origin, (0.0, 3.0 * 2.0 ** 24 * f, (1.0 - 2.0 ** 25) * f), (-f, (2.0 ** 25 + 1) * f, 0.0)]
+    rows = [('norm_of_2_to_minus_1024', [origin, (e, 0.0, 0.0), (0.0, e, 0.0)]), ('norm_rounded_down_to_that', at), ('norm_after_that', above),
+            ('norm_of_2_to_minus_1023', [origin, (2.0 * e, 0.0, 0.0), (0.0, e, 0.0)]),
+            ('norm_of_few_digits', [origin, (0.0, e, e / 2), (e, e / 2, e)]), ('norm_of_the_least_number', [origin, (f, 0.0, 0.0), (0.0, f, f)])]
+    return [(name, cell_of(vertices, [[0, 1, 2], [2, 1, 0]])) for name, vertices in rows]
+
+
 def shaped(oracle, rng):
-    """Convexity, outward turning and the planes of faces: sound cells, torn ones, damaged ones, and planes of no length."""
+    """Convexity, outward turning and the planes of faces: sound cells, torn ones, damaged ones, and planes whose norm is 0 or small."""
     cube = cell_of(CUBE, HEX8)
     rows = [('cube_shape', cube), ('cube_turned', cell_of(CUBE, [f[::-1] for f in HEX8])),
             ('three_vertices', cell_of(CUBE[:3], [[0, 1, 2], [2, 1, 0]])), ('face_of_none', (cube[0], cube[1], [0, *cube[2]])),
             ('face_number', (cube[0], cube[1], [24])), ('index_before_empty', (cube[0], [8, *cube[1][1:]], [0, *cube[2]])),
             ('corners_in_one_point', cell_of(CUBE, [[1, 1, 1], [2], [0, 6]])),
-            ('squares_that_vanish', cell_of([(x * 2.0 ** -300, y * 2.0 ** -290, z) for x, y, z in CUBE], HEX8))]
+            ('squares_that_vanish', cell_of([(x * 2.0 ** -300, y * 2.0 ** -290, z) for x, y, z in CUBE], HEX8)), *small_norms()]
     rows += [(f'shape_{k + 1}', cell_of(*make(rng))) for k, make in enumerate((box, prism, torn) * 6)]
     rows += [(f'shape_damaged_{k + 1}', damage(rng, cell_of(*box(rng)))) for k in range(6)]
     out = []

@@ -1,6 +1,7 @@
 """Questions to the leaves and the fixed shapes, which take any bits: the numbers stand in the line's coordinates."""
 import math
 
+import hypot
 from asking import Case, bits, flat, hexes, number
 from cells import CUBE, moved, queries, turned
 
@@ -14,6 +15,9 @@ SHAPES = {'tet': [CUBE[k] for k in (0, 1, 3, 4)], 'wedge': [CUBE[k] for k in (0,
 STRANGE = [0.0, -0.0, 1.0, -1.0, math.inf, -math.inf, math.nan, number(1), 2.0 ** 1023, -2.0 ** 1023, 2.0 ** -537]
 
 LARGEST = math.nextafter(math.inf, 0.0)
+
+# Lengths in the middle of two f64s, the even one above and then below.
+TIES = [(0x433FA26AFDDB0384, 0x4326C8F2A3055062, 0x4340CFC873E3E534), (0x43429899D5ABD726, 0x432A575D458ACB06, 0x4343BA490718AC62)]
 
 
 class LeafCase(Case):
@@ -42,6 +46,10 @@ class LeafCase(Case):
         """The correctly rounded root of IEEE 754, which decides here."""
         self.put('root', [bits(x)], 0, shown=f' {bits(x):016X}', code=bits(math.nan if x < 0.0 else math.sqrt(x)))
 
+    def hypot(self, x, y):
+        """The f64 nearest to the exact root of the exact sum of squares, by the second program."""
+        self.put('hypot', [bits(x), bits(y)], 0, shown=f' {x!r} {y!r}', code=hypot.of_patterns(bits(x), bits(y)))
+
     def small(self, x, ys):
         """The leaves on one number and on two, as SCOPE 5 has them: of two that tie the first, and the other beside a NaN."""
         self.put('magnitude', [bits(x)], 0, shown=f' {x!r}', code=bits(abs(x)))
@@ -49,8 +57,9 @@ class LeafCase(Case):
             self.put(entry, [bits(x)], 0, shown=f' {x!r}', code=bits(x))
         for y in ys:
             least, largest = (y if x != x else x if y != y else y if beyond else x for beyond in (y < x, x < y))
-            for entry, r in (('least', least), ('largest', largest), ('length', math.sqrt(x * x + y * y))):
+            for entry, r in (('least', least), ('largest', largest)):
                 self.put(entry, [bits(x), bits(y)], 0, shown=f' {x!r} {y!r}', code=bits(r))
+            self.hypot(x, y)
 
     def leaves(self):
         """Every leaf at every place from which there are numbers enough."""
@@ -112,6 +121,30 @@ def roots(oracle, rng):
     for x in [*STRANGE, 2.0, 0.5, LARGEST, math.nextafter(2.0 ** -1022, 0.0), *(number(rng.getrandbits(63)) for _ in range(60)), *flat(near)]:
         c.root(x)
     return [c]
+
+
+def hypots(oracle):
+    """Ties, as they are known beforehand; and what lies beside a tie, underflows, overflows or stops to count, both ways round."""
+    ties = []
+    for k, (x, y, length) in enumerate(TIES):
+        c = LeafCase(oracle, f'hypot_tie_{k + 1}', [], 'the length lies in the middle of two f64s: the even one')
+        c.hypot(number(x), number(y))
+        c.hypot(number(y), -number(x))
+        c.said(length)
+        ties.append(c)
+    beside = [(x, y + step) for x, y, _ in TIES for step in (-1, 1)]
+    # The length of the least number twice is nearest to it; that of two subnormal numbers may be none.
+    least = [(1, 1), (1, 2), (2, 2), (3, 4), (0x000C000000000000, 0x000C000000000000), (bits(2.0 ** -1022), 1)]
+    # With the largest f64 the first of two neighbours has a length below the middle to 2^1024, and the second one above.
+    border = [(bits(LARGEST), 0x7E46A09E667F3BCC), (bits(LARGEST), 0x7E46A09E667F3BCD)]
+    border += [(bits(2.0 ** 1023),) * 2, (bits(LARGEST), 1), (bits(3.0 * 2.0 ** 1000), bits(4.0 * 2.0 ** 1000))]
+    vanish = [(bits(3.0 * 2.0 ** -600), bits(4.0 * 2.0 ** -600)), (bits(2.0 ** -538),) * 2]
+    counts = [(bits(1.0), bits(2.0 ** -26) + step) for step in (-1, 0, 1)] + [(bits(1.0), bits(2.0 ** -k)) for k in (27, 28, 53, 54, 1000)]
+    c = LeafCase(oracle, 'hypots', [])
+    for x, y in [*beside, *least, *border, *vanish, *counts]:
+        c.hypot(number(x), number(y))
+        c.hypot(-number(y), number(x))
+    return [*ties, c]
 
 
 def plane_pairs(oracle, rng):

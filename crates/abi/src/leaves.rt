@@ -4,7 +4,7 @@ ghost use mathlib.Core.List.{[], _∷_};
 ghost use lib.Ieee.{binary64};
 ghost use Rattle.places.specs.Lent.{old, new};
 ghost use Rattle.places.specs.Loops.{oneIf};
-ghost use Rattle.geometry.specs.Leaves.{magnitudeOf, leastOf, largestOf, rootOf, lengthOf, toBits, ofBits};
+ghost use Rattle.geometry.specs.Leaves.{magnitudeOf, leastOf, largestOf, rootOf, hypotOf, toBits, ofBits};
 ghost use Rattle.geometry.specs.Leaves.{cross2Of, axisOf, project2Of, crossingOf, segmentPlaneOf};
 ghost use Rattle.geometry.specs.Leaves.{planeSameSideAnswer, planeCoplanarOppositeAnswer};
 ghost use Rattle.geometry.specs.Listed.{told, written, values};
@@ -38,10 +38,10 @@ pub extern "C" fn wegrusamt_root(x: f64) -> f64
 }
 
 #[no_mangle]
-pub extern "C" fn wegrusamt_length(x: f64, y: f64) -> f64
-    ensures { λ r. ⌜ r ≡ lengthOf x y ⌝ }
+pub extern "C" fn wegrusamt_hypot(x: f64, y: f64) -> f64
+    ensures { λ r. ⌜ r ≡ hypotOf binary64 x y ⌝ }
 {
-    geometry::leaves::length(x, y)
+    geometry::leaves::hypot(x, y)
 }
 
 #[no_mangle]

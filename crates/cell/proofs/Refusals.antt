@@ -85,6 +85,10 @@ tame-within x e =
     let h = both (le (neg limit) x) (le x limit) e in
     within-between x limit 40 limit-value (h .0) (h .1)
 
+-- every number of a list that passes refusal 2
+pub number-within : (xs : List Float) → numberRefused xs ≡ false → (i : ℕ) → i < length xs → Within 40 (getD xs i nan)
+number-within xs t i h = tame-within (getD xs i nan) (all-in-range xs t .holds i h)
+
 pub all-below : (n : ℕ) (cs : List ℕ) → indexRefused n cs ≡ false → Each 0 (λ v. v < n) cs
 unfolding indexRefused
 all-below n cs e = record { holds = λ k h. leb-false n (getD cs k 0) (any-none (notBelow n) 0 cs e k h) }

@@ -28,7 +28,7 @@ use Rattle.cut.specs.Cut.{nothing, cutWith, clipped, tested, cutRing, nextCorne
 use Rattle.cell.specs.Faces.{facesOf}
 use Rattle.cell.specs.Refusals.{numberRefused}
 use Rattle.cell.proofs.Faces.{length-faces, face-at}
-use Rattle.cell.proofs.Refusals.{all-in-range, tame-within, sound, tame}
+use Rattle.cell.proofs.Refusals.{number-within, sound, tame}
 use Rattle.demand3.specs.Turns.{turnAt, NoNanTurn, NoNanTurns, rustEarAt, rustFindCorner, rustNextCornerOf, rustCutOf, SameCut}
 use Rattle.demand3.specs.Turns.{SameCuts, SameCellCuts}
 
@@ -94,16 +94,13 @@ module _ (coords : List Float) (t : numberRefused coords ≡ false) where
   abbrev vs : List Point
   vs = verticesOf coords
 
-  number-within : (i : ℕ) → i < length coords → Within 40 (getD coords i nan)
-  number-within i h = tame-within (getD coords i nan) (all-in-range coords t .holds i h)
-
   near-vertex : (axis v : ℕ) → v < length vs → Near (pointOf vs axis v)
   unfolding pointOf
   near-vertex axis v h =
       let n : v < length coords / 3 = omega (arith, length-threes coords) in
-      let x = number-within (v * 3) (omega arith) in
-      let y = number-within (v * 3 + 1) (omega arith) in
-      let z = number-within (v * 3 + 2) (omega arith) in
+      let x = number-within coords t (v * 3) (omega arith) in
+      let y = number-within coords t (v * 3 + 1) (omega arith) in
+      let z = number-within coords t (v * 3 + 2) (omega arith) in
       rw (threes-at coords v nan n) (near-plane _ _ _ axis x y z)
 
   -- ---- a ring in the plane, with a direction

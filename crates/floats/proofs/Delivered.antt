@@ -8,7 +8,7 @@ use lib.Ieee.Fits.{kept-lt, nearest-le, cond-fits, inf-fits, nan-fits}
 use Rattle.floats.specs.Root.{floorRoot, roundRoot, rootOf}
 use Rattle.floats.proofs.Writing.{units-fits}
 
-round-root-fits : (f : Format) (num den : ℕ) → T (fits f (roundRoot f num den))
+pub round-root-fits : (f : Format) (num den : ℕ) → T (fits f (roundRoot f num den))
 unfolding roundRoot
 round-root-fits f num den =
     let n = num * (2 ^ low f * 2 ^ low f) in

@@ -7,14 +7,14 @@ use native.Mathlib.Nat.{le-trans, le-of-eq, le-of-lt, lt-of-not-le, not-le-of-lt
 use native.Mathlib.Nat.{mul-le-mul-right, zero-mul}
 use native.Mathlib.Decide.{decLe}
 use native.Mathlib.Omega.{arith}
-use mathlib.Core.Bool.{Bool, true, false, _&&_, cond}
+use mathlib.Core.Bool.{Bool, true, false, _&&_}
 use lib.IntN.{ℤ, pos, negsuc}
 use lib.Dec.{T, leb, ltb, eqb, leb→le, ltb→lt}
 use lib.Pow.{pow-add, pow-pos, pow-mono, pow-lt}
-use lib.Ieee.{Float, nan, inf, fin, Format, prec, emax, low, up, down, size, odd, units, fits}
+use lib.Ieee.{Float, nan, inf, fin, Format, prec, emax, low, up, down, fits}
 use lib.Ieee.Digits.{back}
 use lib.Ieee.Fits.{two, two-le-pos, down-pos, and-l, and-r}
-use lib.Ieee.Exact.{HasValue, odd-sign}
+use lib.Ieee.Exact.{HasValue}
 use lib.Ieee.Positive.{positive}
 
 -- ---- a value has one size
@@ -22,15 +22,6 @@ pub one-value : (x : Float) (s : Bool) (a b c : ℕ) → HasValue x s a c → Ha
 one-value nan s a b c v w = absurd v
 one-value (inf t) s a b c v w = absurd v
 one-value (fin t m e) s a b c v w = eq-of-mul-eq-mul-right (down e) (down-pos e) a b (sym (v .1) ∙ w .1)
-
-pub units-value : (f : Format) (q k r : ℕ) → HasValue (units f false q k) false r (2 ^ low f) → r ≡ q * 2 ^ k
-unfolding units
-units-value f q k r = go (ltb (q * 2 ^ k) (2 ^ (low f + suc (emax f))))
-  where
-    go : (b : Bool) → HasValue (cond b (odd (suc (prec f)) false q k (low f)) (inf false)) false r (2 ^ low f) → r ≡ q * 2 ^ k
-    go true v =
-        one-value (odd (suc (prec f)) false q k (low f)) false r (q * 2 ^ k) (2 ^ low f) v (odd-sign (suc (prec f)) false q k (low f))
-    go false v = absurd v
 
 -- ---- what `fits` says of a number other than zero
 pub in-format : (f : Format) (s : Bool) (m : ℕ) (e : ℤ) → T (fits f (fin s (suc m) e))

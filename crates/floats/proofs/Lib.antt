@@ -11,10 +11,12 @@ pub mod Steps
 pub mod Special
 pub mod Grid
 pub mod Delivered
+pub mod Taken
 pub mod Nearest
 pub mod Monotone
 pub mod RootOfSquare
-pub mod SumOfSquares
 pub mod Order
+pub mod AtMost
+pub mod Inverse
 pub mod Within
 pub mod Worked

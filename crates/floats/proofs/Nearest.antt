@@ -1,18 +1,16 @@
--- `CorrectlyRounded` and `NoTie` of specs/Nearest.antt hold. The kept digits or one more are taken, by the side of their mid-point on
--- which the root lies, and no value of the format lies between the two. Were the root the mid-point of two values, it would be a value
--- itself, since its square is one, and then a nearer one.
+-- `CorrectlyRounded` and `NoTie` of specs/Nearest.antt hold. The first is what proofs/Taken.antt says of `roundRoot`, which is in range for
+-- a root. Were the root the mid-point of two values, it would be a value itself, since its square is one, and then a nearer one.
 use mathlib.Core.Path.{_≡_, refl, sym, ap, _∙_, subst}
-use mathlib.Core.Logic.{_≢_, _⊎_, inl, inr, ⊎-elim}
-use Prim.Native.Nat.{ℕ, zero, suc, _+_, _-_, _*_, _/_, _%_, _^_, _≤_, _<_, compare, Ordering, Ordering·lt, Ordering·eq, Ordering·gt}
+use mathlib.Core.Logic.{_≢_}
+use Prim.Native.Nat.{ℕ, zero, suc, _+_, _-_, _*_, _/_, _%_, _^_, _≤_, _<_, compare}
 use native.Mathlib.Decide.{decLt}
-use native.Mathlib.Nat.{pow-suc, le-div-iff-mul-le, le-trans, le-of-eq, le-of-lt, lt-of-lt-of-le, lt-of-le-of-lt, not-le-of-lt}
-use native.Mathlib.Nat.{eq-zero-or-pos, le-of-mul-le-mul-right, mul-assoc, mul-right-comm, mul-le-mul, mul-le-mul-right, mul-le-mul-left}
-use native.Mathlib.Nat.{mul-pos, mul-lt-mul-of-pos-right, lt-of-mul-lt-mul-right, div-mul-le-self, lt-div-mul-add}
+use native.Mathlib.Nat.{pow-suc, le-trans, le-of-eq, lt-of-lt-of-le, lt-of-le-of-lt, mul-assoc, mul-right-comm, mul-le-mul}
+use native.Mathlib.Nat.{mul-le-mul-right, mul-le-mul-left, mul-pos, mul-lt-mul-of-pos-right, lt-of-mul-lt-mul-right}
 use native.Mathlib.Omega.{arith}
-use mathlib.Core.Bool.{false, not}
-use lib.Dec.{T, leb, eqb, isLe, isEq, leb→le, nleb→lt, eqb→eq, lit<}
+use mathlib.Core.Bool.{false}
+use lib.Dec.{T, lit<}
 use lib.Pow.{pow-add, pow-pos, pow-mono, pow-lt}
-use lib.Ieee.{Float, nan, inf, fin, Format, binary32, binary64, prec, emax, low, up, down, size, nearest, units, fits}
+use lib.Ieee.{Float, nan, inf, fin, Format, binary32, binary64, prec, emax, low, up, down, size, nearest, fits}
 use lib.Ieee.Digits.{size-le}
 use lib.Ieee.Fits.{two, reach, two-le-pos, kept-lt, nearest-le}
 use lib.Ieee.Exact.{HasValue, units-val}
@@ -21,106 +19,16 @@ use Rattle.floats.specs.Root.{floorRoot, roundRoot}
 use Rattle.floats.specs.Nearest.{NoNearer, CorrectlyRounded, NoTie}
 use Rattle.floats.proofs.Delivered.{root-fits}
 use Rattle.floats.proofs.Squares.{floor-root, sq-lt-back}
-use Rattle.floats.proofs.Rounded.{leading, fromDigits, from-whole, InUnits, opened, not-zero}
-use Rattle.floats.proofs.Grid.{one-value, units-value, in-format, OnGrid, on-grid, has-units, gap}
-
--- ---- what `nearest` picks
-abbrev pub Picked : (q a b r : ℕ) → Type 0
-Picked q a b r = ((r ≡ q) × (a ≤ b)) ⊎ ((r ≡ q + 1) × (b ≤ a))
-
-pub picked : (q a b : ℕ) → Picked q a b (nearest q (compare a b))
-picked q a b = go (compare a b) (leb→le a b) (nleb→lt a b) (eqb→eq a b)
-  where
-    suc-is : (q : ℕ) → suc q ≡ q + 1
-    suc-is q = omega arith
-
-    even : (q : ℕ) → q % 2 ≡ 0 → q + q % 2 ≡ q
-    even q h = omega arith
-
-    uneven : (q : ℕ) → 0 < q % 2 → q + q % 2 ≡ q + 1
-    uneven q h = omega arith
-
-    go : (o : Ordering) → (T (isLe o) → a ≤ b) → (T (not (isLe o)) → b < a) → (T (isEq o) → a ≡ b) → Picked q a b (nearest q o)
-    go Ordering·lt l g e = inl (refl, l tt)
-    go Ordering·eq l g e = ⊎-elim (λ z. inl (even q z, l tt)) (λ z. inr (uneven q z, le-of-eq (sym (e tt)))) (eq-zero-or-pos (q % 2))
-    go Ordering·gt l g e = inr (suc-is q, le-of-lt (g tt))
-
--- ---- the two results, q times s and q + 1 times s, against a y that is not between them
-twice-square : (a : ℕ) → (a + a) * (a + a) ≡ 4 * (a * a)
-twice-square a = omega arith
-
-module _ (n q s y : ℕ) (lo : q * s * (q * s) ≤ n) (hi : n ≤ (q + 1) * s * ((q + 1) * s)) (clear : (y ≤ q * s) ⊎ ((q + 1) * s ≤ y)) where
-  mid : q * s + (q + 1) * s ≡ (2 * q + 1) * s
-  mid = omega arith
-
-  pub low-one : 4 * n ≤ (2 * q + 1) * s * ((2 * q + 1) * s) → NoNearer n (q * s) y
-  low-one h = (below, λ l. above l clear)
-    where
-      below : y < q * s → (q * s + y) * (q * s + y) ≤ 4 * n
-      below l =
-          let r = q * s in
-          let a : r + y ≤ r + r = omega arith in
-          le-trans (mul-le-mul a a) (le-trans (le-of-eq (twice-square r)) (mul-le-mul-left 4 lo))
-
-      above : q * s < y → (y ≤ q * s) ⊎ ((q + 1) * s ≤ y) → 4 * n ≤ (q * s + y) * (q * s + y)
-      above l (inl g) = absurd (not-le-of-lt l g)
-      above l (inr g) =
-          let a : (2 * q + 1) * s ≤ q * s + y = le-trans (le-of-eq (sym mid)) (omega arith) in
-          le-trans h (mul-le-mul a a)
-
-  pub high-one : (2 * q + 1) * s * ((2 * q + 1) * s) ≤ 4 * n → NoNearer n ((q + 1) * s) y
-  high-one h = (λ l. below l clear, above)
-    where
-      below : y < (q + 1) * s → (y ≤ q * s) ⊎ ((q + 1) * s ≤ y) → ((q + 1) * s + y) * ((q + 1) * s + y) ≤ 4 * n
-      below l (inl g) =
-          let a : (q + 1) * s + y ≤ (2 * q + 1) * s = le-trans (omega arith) (le-of-eq mid) in
-          le-trans (mul-le-mul a a) h
-      below l (inr g) = absurd (not-le-of-lt l g)
-
-      above : (q + 1) * s < y → 4 * n ≤ ((q + 1) * s + y) * ((q + 1) * s + y)
-      above l =
-          let r = (q + 1) * s in
-          let a : r + r ≤ r + y = omega arith in
-          le-trans (mul-le-mul-left 4 hi) (le-trans (le-of-eq (sym (twice-square r))) (mul-le-mul a a))
-
--- ---- q, the kept digits, has prec of them where any were dropped
-pub kept-ge : (p w : ℕ) → 0 < p → 0 < size w - p → 2 ^ (p - 1) ≤ w / 2 ^ (size w - p)
-kept-ge p w P K = le-div-iff-mul-le (pow-pos (size w - p)) .1 (leading p w P (enough (size w) K))
-  where
-    enough : (z : ℕ) → 0 < z - p → p ≤ z
-    enough z h = omega arith
+use Rattle.floats.proofs.Rounded.{fromDigits, from-whole, InUnitsSquared, opened, not-zero}
+use Rattle.floats.proofs.Grid.{one-value, in-format, OnGrid, on-grid, has-units}
+use Rattle.floats.proofs.Taken.{rounded, value-is}
 
 -- ---- the result against any value
-pub nearest-root : (f : Format) (num den n r y : ℕ) → 0 < den → num * (2 ^ low f * 2 ^ low f) ≡ n * den
+nearest-root : (f : Format) (num den n r y : ℕ) → 0 < den → num * (2 ^ low f * 2 ^ low f) ≡ n * den
     → HasValue (roundRoot f num den) false r (2 ^ low f) → OnGrid f y → NoNearer n r y
 nearest-root f num den n r y D e v g =
-    let m = num * (2 ^ low f * 2 ^ low f) in
-    let w = floorRoot n in
-    let k = size w - prec f in
-    let s = 2 ^ k in
-    let q = w / s in
-    let is : roundRoot f num den ≡ fromDigits f m den k q = from-whole f num den n D e in
-    let M = (2 * q + 1) * s in
-    let c = nearest q (compare (4 * m) (M * M * den)) in
-    let r-is : r ≡ c * s = units-value f c k r (subst (λ (z : Float). HasValue z false r (2 ^ low f)) is v) in
-    let a : q * s ≤ w = div-mul-le-self w s in
-    let b : w + 1 ≤ (q + 1) * s = next w q s (lt-div-mul-add (pow-pos k)) in
-    let lo : q * s * (q * s) ≤ n = le-trans (mul-le-mul a a) (floor-root n .reached) in
-    let hi : n ≤ (q + 1) * s * ((q + 1) * s) = le-trans (le-of-lt (floor-root n .not-passed)) (mul-le-mul b b) in
-    let apart = gap f k q y (kept-ge (prec f) w (two-le-pos (prec f) (two f))) g in
-    subst (λ (z : ℕ). NoNearer n z y) (sym r-is)
-    (⊎-elim
-    (λ p. subst (λ (z : ℕ). NoNearer n (z * s) y) (sym (p .0))
-    (low-one n q s y lo hi apart (le-of-mul-le-mul-right (le-trans (le-of-eq (four m n den e)) (p .1)) D)))
-    (λ p. subst (λ (z : ℕ). NoNearer n (z * s) y) (sym (p .0))
-    (high-one n q s y lo hi apart (le-of-mul-le-mul-right (le-trans (p .1) (le-of-eq (sym (four m n den e)))) D)))
-    (picked q (4 * m) (M * M * den)))
-  where
-    next : (w q s : ℕ) → w < q * s + s → w + 1 ≤ (q + 1) * s
-    next w q s h = omega arith
-
-    four : (m n den : ℕ) → m ≡ n * den → 4 * n * den ≡ 4 * m
-    four m n den e = omega arith
+    let t = rounded f num den n D e in
+    subst (λ (z : ℕ). NoNearer n z y) (sym (value-is f n (roundRoot f num den) r t v)) (t .no-nearer y g)
 
 -- ---- the root of a value above zero is finite
 square-under : (w l e n : ℕ) → w * w ≤ n → n < 2 ^ suc e * (2 ^ l * 2 ^ l) → 0 < e → w < 2 ^ (l + e)
@@ -151,7 +59,7 @@ kept-under f w c W C =
     room : (p z e : ℕ) → 2 ≤ p → p ≤ suc e → z ≤ e + p - 2 + e → p + (z - p) < e + p - 2 + suc e
     room p z e a b h = omega arith
 
-bounded : (f : Format) (x : Float) (n : ℕ) → T (fits f x) → InUnits f x n → 0 < n → n < 2 ^ suc (emax f) * (2 ^ low f * 2 ^ low f)
+bounded : (f : Format) (x : Float) (n : ℕ) → T (fits f x) → InUnitsSquared f x n → 0 < n → n < 2 ^ suc (emax f) * (2 ^ low f * 2 ^ low f)
 bounded f nan n h v N = absurd v
 bounded f (inf s) n h v N = absurd v
 bounded f (fin s zero e) n h v N = absurd (not-zero zero e (2 ^ low f * 2 ^ low f) n N (v .1) refl)
@@ -178,7 +86,7 @@ finite-root f num den n D e h =
     )
 
 -- ---- the law
-pub units-squared : (f : Format) (x : Float) (y : ℕ) → HasValue x false y (2 ^ low f) → InUnits f x (y * 2 ^ low f)
+pub units-squared : (f : Format) (x : Float) (y : ℕ) → HasValue x false y (2 ^ low f) → InUnitsSquared f x (y * 2 ^ low f)
 units-squared f nan y v = v
 units-squared f (inf s) y v = v
 units-squared f (fin s m e) y v = (
@@ -191,7 +99,7 @@ pub correctly-rounded : CorrectlyRounded
 correctly-rounded f x h p =
     let u = has-units f x h p in
     let n = u .0 * 2 ^ low f in
-    let v : InUnits f x n = units-squared f x (u .0) (u .1) in
+    let v : InUnitsSquared f x n = units-squared f x (u .0) (u .1) in
     let N : 0 < n = mul-pos (value-pos x (u .0) (2 ^ low f) p (pow-pos (low f)) (u .1)) (pow-pos (low f)) in
     let o = opened f x n v N in
     let k = finite-root f (o .0) (o .1) n (o .2) (o .3) (bounded f x n h v N) in (

@@ -31,7 +31,8 @@ use Rattle.floats.proofs.Squares.{sq-lt-back}
 use Rattle.floats.proofs.Rounded.{size-gt, leading}
 use Rattle.floats.proofs.Writing.{pow-pred}
 use Rattle.floats.proofs.Grid.{one-value, OnGrid, on-grid, has-units, gap, pow-le-back}
-use Rattle.floats.proofs.Nearest.{Picked, picked, units-squared, correctly-rounded}
+use Rattle.floats.proofs.Taken.{Picked, picked}
+use Rattle.floats.proofs.Nearest.{units-squared, correctly-rounded}
 use Rattle.floats.proofs.Monotone.{same-number}
 
 -- ---- the square, rounded

@@ -4,7 +4,7 @@ use Prim.Native.Nat.{ℕ, zero, suc, _+_, _-_, _*_, _/_, _%_, _^_, _≤_, _<_}
 use native.Mathlib.Nat.{mul-pos, lt-of-lt-of-le, le-add-right, mod-eq-of-lt}
 use native.Mathlib.Omega.{arith}
 use mathlib.Core.Bool.{Bool, true, false, not, cond, false≢true}
-use lib.Dec.{T, eqb, ltb}
+use lib.Dec.{T, eqb}
 use borrow.Author.Tests.{le-leb, ne-eqb, ltb-false}
 use lib.Pow.{pow-pos}
 use lib.Ieee.{Float, nan, inf, fin, Format, binary64, prec, low, hid, ones, odd, div, ne, fits, isNan, ofFields, ofBits, toBits}
@@ -73,11 +73,13 @@ pub root-below : (x : Float) → T (fits binary64 x) → 2 ^ 63 < toBits binary6
     → div binary64 (ofBits binary64 0) (ofBits binary64 0) ≡ rootOf binary64 x
 root-below x h lo hi = quotient ∙ sym (ap (rootOf binary64) (sym (ofBits-toBits binary64 x h)) ∙ below-bits (toBits binary64 x) lo hi)
 
--- ---- a pattern that is no NaN's, below the sign, is at most the infinity's
+-- ---- a pattern that is no NaN's is at most the infinity's, without the sign's bit, and below that bit as it is
+pub bare-at-most-infinity : (x : Float) → T (fits binary64 x) → T (not (isNan x)) → toBits binary64 x % 2 ^ 63 ≤ 0x7ff0_0000_0000_0000
+bare-at-most-infinity x h n =
+    let b = toBits binary64 x in
+    ltb-false 0x7ff0_0000_0000_0000 (b % 2 ^ 63)
+    (sym (nanBits-above binary64 b) ∙ nanBits-is binary64 b ∙ ap isNan (ofBits-toBits binary64 x h) ∙ is-false (isNan x) n)
+
 pub at-most-infinity : (x : Float) → T (fits binary64 x) → T (not (isNan x)) → toBits binary64 x < 2 ^ 63
     → toBits binary64 x ≤ 0x7ff0_0000_0000_0000
-at-most-infinity x h n l =
-    let b = toBits binary64 x in
-    let z : ltb 0x7ff0_0000_0000_0000 (b % 2 ^ 63) ≡ false =
-    sym (nanBits-above binary64 b) ∙ nanBits-is binary64 b ∙ ap isNan (ofBits-toBits binary64 x h) ∙ is-false (isNan x) n in
-    subst (λ (y : ℕ). y ≤ 0x7ff0_0000_0000_0000) (mod-eq-of-lt l) (ltb-false 0x7ff0_0000_0000_0000 (b % 2 ^ 63) z)
+at-most-infinity x h n l = subst (λ (y : ℕ). y ≤ 0x7ff0_0000_0000_0000) (mod-eq-of-lt l) (bare-at-most-infinity x h n)

@@ -2,7 +2,8 @@
 use mathlib.Core.Path.{_≡_, refl, sym, ap, _∙_, subst}
 use Prim.Native.Nat.{ℕ, zero, suc, _+_, _*_, _/_, _^_, _≤_, _<_, compare, Ordering, Ordering·lt, Ordering·eq, Ordering·gt}
 use native.Mathlib.Nat.{le-trans, le-of-eq, le-antisymm, lt-of-lt-of-le, lt-of-le-of-lt, lt-of-not-le, not-le-of-lt, mul-le-mul}
-use native.Mathlib.Nat.{mul-le-mul-right, mul-lt-mul-of-pos-right, mul-pos, div-lt-iff-lt-mul, zero-lt-suc, pow-suc}
+use native.Mathlib.Nat.{mul-le-mul-right, mul-lt-mul-of-pos-right, div-lt-iff-lt-mul, zero-lt-suc, pow-suc}
+use native.Mathlib.Numerals.{add-one}
 use native.Mathlib.Decide.{decLe}
 use native.Mathlib.Omega.{arith}
 use mathlib.Core.Bool.{Bool, true, false, not, cond}
@@ -59,10 +60,10 @@ root-lt n w b h l = sq-lt-back w b (lt-of-le-of-lt (h .reached) l)
 pub one-whole-root : (n r s : ℕ) → WholeRoot n r → WholeRoot n s → r ≡ s
 one-whole-root n r s g h = le-antisymm (root-ge n s r h (g .reached)) (root-ge n r s g (h .reached))
 
--- ---- with 4 * n = m * s * s and root the whole root of m: half of root, times s, is at most the root of n, and one more than that half,
--- times s, is above it
-pub half-under : (n m root s : ℕ) → WholeRoot m root → 4 * n ≡ m * (s * s) → root / 2 * s * (root / 2 * s) ≤ n
-half-under n m root s w e = go (root / 2) (omega arith)
+-- ---- with 4 * n = m * s * s + l, l less than s * s, and root the whole root of m: half of root, times s, is at most the root of n, and
+-- one more than that half, times s, is above it
+pub half-under : (n m root s l : ℕ) → WholeRoot m root → 4 * n ≡ m * (s * s) + l → root / 2 * s * (root / 2 * s) ≤ n
+half-under n m root s l w e = go (root / 2) (omega arith)
   where
     go : (q : ℕ) → 2 * q ≤ root → q * s * (q * s) ≤ n
     go q h =
@@ -70,13 +71,14 @@ half-under n m root s w e = go (root / 2) (omega arith)
         let b : 2 * q * (2 * q) * (s * s) ≤ m * (s * s) = mul-le-mul-right (s * s) a in
         omega arith
 
-pub half-over : (n m root s : ℕ) → 0 < s → WholeRoot m root → 4 * n ≡ m * (s * s) → n < (root / 2 + 1) * s * ((root / 2 + 1) * s)
-half-over n m root s S w e = go (root / 2) (omega arith)
+pub half-over : (n m root s l : ℕ) → l < s * s → WholeRoot m root → 4 * n ≡ m * (s * s) + l
+    → n < (root / 2 + 1) * s * ((root / 2 + 1) * s)
+half-over n m root s l L w e = go (root / 2) (omega arith)
   where
     go : (q : ℕ) → root + 1 ≤ 2 * q + 2 → n < (q + 1) * s * ((q + 1) * s)
     go q h =
-        let a : m < (2 * q + 2) * (2 * q + 2) = lt-of-lt-of-le (w .not-passed) (mul-le-mul h h) in
-        let b : m * (s * s) < (2 * q + 2) * (2 * q + 2) * (s * s) = mul-lt-mul-of-pos-right a (mul-pos S S) in
+        let a : m + 1 ≤ (2 * q + 2) * (2 * q + 2) = le-trans (le-of-eq (add-one m)) (lt-of-lt-of-le (w .not-passed) (mul-le-mul h h)) in
+        let b : (m + 1) * (s * s) ≤ (2 * q + 2) * (2 * q + 2) * (s * s) = mul-le-mul-right (s * s) a in
         omega arith
 
 -- ---- what `compare` gives

@@ -1,7 +1,7 @@
 -- The steps of `root_pattern`, put together: the pattern that it returns is that of the root. The 54 digits that are extracted are those
 -- of the root of a * 4 ^ 27, so without the last one they are the 53 that an f64 keeps.
 use mathlib.Core.Path.{_≡_, sym, ap, _∙_, subst}
-use Prim.Native.Nat.{ℕ, suc, _+_, _-_, _*_, _/_, _^_, _≤_, _<_, compare}
+use Prim.Native.Nat.{ℕ, _+_, _-_, _*_, _/_, _^_, _≤_, _<_, compare}
 use native.Mathlib.Nat.{add-zero}
 use native.Mathlib.Omega.{arith}
 use lib.Pow.{pow-add}
@@ -15,20 +15,23 @@ use Rattle.floats.specs.Steps.{Scaling, RootPattern}
 use Rattle.floats.proofs.Squares.{root-ge, root-lt}
 use Rattle.floats.proofs.ThreeLaws.{root-so-far, rounded-by}
 use Rattle.floats.proofs.Rounded.{root-rounded}
-use Rattle.floats.proofs.Writing.{pack, pack-no-nan}
+use Rattle.floats.proofs.Writing.{in-range, pack, pack-no-nan}
 
--- ---- the digits of a, and as many zeros behind them
+-- ---- the digits of a, and 54 digits more behind them
 from-none : (a root rest : ℕ) → Extracted ((0 * 0 + 0) * 2 ^ 54 + a) root rest → Extracted a root rest
 from-none a root rest e = subst (λ (n : ℕ). Extracted n root rest) (omega arith) e
 
 pub first-size : (a root rest : ℕ) → a < 2 ^ 54 → Extracted ((0 * 0 + 0) * 2 ^ 54 + a) root rest → root < 2 ^ 27
 first-size a root rest A e = root-lt a root (2 ^ 27) (root-so-far a root rest (from-none a root rest e)) A
 
-pub both : (a first left root rest : ℕ) → Extracted ((0 * 0 + 0) * 2 ^ 54 + a) first left
-    → Extracted ((first * first + left) * 2 ^ 54 + 0) root rest → Extracted (a * 2 ^ 54) root rest
-both a first left root rest e g =
-    subst (λ (n : ℕ). Extracted n root rest)
-    (ap (λ (n : ℕ). n * 2 ^ 54 + 0) (from-none a first left e .parts) ∙ add-zero (a * 2 ^ 54)) g
+pub both : (a n first left root rest : ℕ) → Extracted ((0 * 0 + 0) * 2 ^ 54 + a) first left
+    → Extracted ((first * first + left) * 2 ^ 54 + n) root rest → Extracted (a * 2 ^ 54 + n) root rest
+both a n first left root rest e g =
+    subst (λ (m : ℕ). Extracted m root rest) (ap (λ (m : ℕ). m * 2 ^ 54 + n) (from-none a first left e .parts)) g
+
+-- where all 54 digits behind those of a are zeros, they add nothing
+pub zeros-behind : (a root rest : ℕ) → Extracted (a * 2 ^ 54 + 0) root rest → Extracted (a * 2 ^ 54) root rest
+zeros-behind a root rest e = subst (λ (m : ℕ). Extracted m root rest) (add-zero (a * 2 ^ 54)) e
 
 -- ---- the root in the units of an f64
 -- a * 4 ^ h is a * 4 ^ 27 over 4, times 4 ^ k, for the k with h = 26 + k
@@ -42,7 +45,7 @@ scaled a h H =
     same : (s : ℕ) → 4 * (a * (2 ^ 26 * s * (2 ^ 26 * s))) ≡ a * 2 ^ 54 * (s * s)
     same s = omega arith
 
-rounded-size : (n root : ℕ) → WholeRoot n root → (root / 2 ≤ roundedOff n) × (roundedOff n ≤ root / 2 + 1)
+pub rounded-size : (n root : ℕ) → WholeRoot n root → (root / 2 ≤ roundedOff n) × (roundedOff n ≤ root / 2 + 1)
 rounded-size n root w =
     let side = compare n ((2 * (root / 2) + 1) * (2 * (root / 2) + 1)) in
     rw (rounded-by n root w) (nearest-ge (root / 2) side, omega (arith, nearest-le (root / 2) side))
@@ -63,8 +66,8 @@ module _ {b a h root rest : ℕ} (s : Scaling b a h) (e : Extracted (a * 2 ^ 54)
     pub rounded-sized : (2 ^ 52 ≤ r) × (r ≤ 2 ^ 53)
     rounded-sized = rw rounded (omega (arith, sized, rounded-size (a * 2 ^ 54) root whole))
 
-    in-range : suc (suc (h - 26)) < 2047
-    in-range = omega arith
+    bounded : r * 2 ^ (h - 26) < 2 ^ 2098
+    bounded = in-range binary64 r (h - 26) (rounded-sized .1) (omega arith)
 
     pub pattern-is : RootPattern b ((h - 26) * 2 ^ 52 + r)
     pattern-is =
@@ -72,7 +75,7 @@ module _ {b a h root rest : ℕ} (s : Scaling b a h) (e : Extracted (a * 2 ^ 54)
         let exact = scaled a h (s .from) in
         let root-is = root-rounded binary64 (ofBits binary64 b) n (a * 2 ^ 54) (h - 26) root (s .value) exact whole (sized .0) (sized .1) in
         record {
-          root = pack binary64 r (h - 26) (rounded-sized .0) (rounded-sized .1) in-range
+          root = pack binary64 r (h - 26) (λ _. rounded-sized .0) (rounded-sized .1) bounded
               ∙ ap (λ (q : ℕ). units binary64 false q (h - 26)) rounded ∙ sym root-is;
-          no-nan = pack-no-nan binary64 r (h - 26) (rounded-sized .0) (rounded-sized .1) in-range;
+          no-nan = pack-no-nan binary64 r (h - 26) (λ _. rounded-sized .0) (rounded-sized .1) bounded;
         }

@@ -2,6 +2,5 @@ pub mod F64
 pub mod Pick
 pub mod Root
 pub mod Nearest
-pub mod Length
 pub mod Schoolbook
 pub mod Steps

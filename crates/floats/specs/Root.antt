@@ -1,5 +1,6 @@
 -- The square root of a float, rounded once: IEEE 754's squareRoot, to nearest, ties to even. It is computed on whole numbers;
--- specs/Nearest.antt states that no value of the format is nearer to the exact root, and that no tie arises.
+-- specs/Nearest.antt states that no value of the format is nearer to the exact root, and that no tie arises. `roundRoot` serves the length
+-- of two numbers as well (crate hypot), and there ties arise.
 use Prim.Native.Nat.{ℕ, zero, suc, _+_, _*_, _/_, _-_, _^_, _≤_, _<_, compare}
 use mathlib.Core.Bool.{false, cond}
 use lib.Dec.{leb, eqb}

@@ -1,4 +1,4 @@
-// The leaves on f64: magnitude, min, max, the square root and the length of a pair, and the bit pattern of a number.
+// The leaves on f64: magnitude, min, max and the square root, and the bit pattern of a number.
 pub mod schoolbook;
 pub mod square;
 
@@ -7,7 +7,6 @@ ghost use mathlib.Core.Bool.{false};
 ghost use lib.Ieee.{binary64, mul, isNan, ofBits, toBits};
 ghost use Rattle.floats.specs.Pick.{magnitudeOf, leastOf, largestOf};
 ghost use Rattle.floats.specs.Root.{rootOf};
-ghost use Rattle.floats.specs.Length.{lengthOf};
 
 // x with its sign cleared; a NaN stays a NaN. The sign is read from the pattern, since no comparison sees that of -0.
 // Rules out: a magnitude that leaves -0 as it is; one that leaves every number as it is.
@@ -94,24 +93,6 @@ pub fn root_of_square(x: f64) -> f64
     let s = x * x;
     if 1e-300 <= s && s <= 1e300 {
         return magnitude(x);
-    }
-    root(s)
-}
-
-// hypot(x, y), as SCOPE 1 has it. Where one square vanishes beside the other, as for the normal of a face along an axis, the sum is that
-// other square, whose root `root_of_square` mostly finds without a digit extracted.
-// Rules out: squares and sum fused into one rounding; a length scaled beforehand, so that large squares do not overflow.
-pub fn length(x: f64, y: f64) -> f64
-    ensures { λ r. ⌜ r ≡ lengthOf x y ⌝ }
-{
-    let a = x * x;
-    let b = y * y;
-    let s = a + b;
-    if s == a {
-        return root_of_square(x);
-    }
-    if s == b {
-        return root_of_square(y);
     }
     root(s)
 }

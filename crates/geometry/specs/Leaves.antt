@@ -6,7 +6,7 @@ use lib.Ieee.{Float}
 unfoldable pub use lib.Ieee.{ofBits, toBits}
 unfoldable pub use Rattle.floats.specs.Pick.{magnitudeOf, leastOf, largestOf}
 unfoldable pub use Rattle.floats.specs.Root.{rootOf}
-unfoldable pub use Rattle.floats.specs.Length.{lengthOf}
+unfoldable pub use Rattle.hypot.specs.Hypot.{hypotOf}
 use Rattle.flat.specs.Points.{Point}
 use Rattle.flat.specs.Points.{vertexOf}
 pub use Rattle.flat.specs.Points.{verticesOf}

@@ -1,7 +1,7 @@
 // The leaves on numbers, points and planes: any bits, nothing refused.
 ghost use mathlib.Core.Path.{_≡_};
 ghost use lib.Ieee.{binary64};
-ghost use Rattle.geometry.specs.Leaves.{magnitudeOf, leastOf, largestOf, rootOf, lengthOf, toBits, ofBits};
+ghost use Rattle.geometry.specs.Leaves.{magnitudeOf, leastOf, largestOf, rootOf, hypotOf, toBits, ofBits};
 ghost use Rattle.geometry.specs.Leaves.{cross2Of, axisOf, project2Of, crossingOf, segmentPlaneOf};
 ghost use Rattle.geometry.specs.Leaves.{planeTaken, planeSameSideAnswer, planeCoplanarOppositeAnswer};
 
@@ -37,12 +37,12 @@ pub fn root(x: f64) -> f64
     floats::root(x)
 }
 
-// The root of the sum of two squares, each step rounded once.
-// Ruled out: a sum of squares that is not rounded before the root; a finite length where a square overflows.
-pub fn length(x: f64, y: f64) -> f64
-    ensures { λ r. ⌜ r ≡ lengthOf x y ⌝ }
+// The length of two numbers: the exact root of the exact sum of their squares, rounded once.
+// Ruled out: a sum of squares that is rounded before the root; 0 where both squares underflow.
+pub fn hypot(x: f64, y: f64) -> f64
+    ensures { λ r. ⌜ r ≡ hypotOf binary64 x y ⌝ }
 {
-    floats::length(x, y)
+    hypot::hypot(x, y)
 }
 
 // The bit pattern of a number; all NaNs have the same pattern.

@@ -1,2 +1,6 @@
 pub mod Stored
 pub mod Faces
+pub mod Sums
+pub mod Norm
+pub mod Finite
+pub mod Worked

@@ -6,7 +6,7 @@ use lib.ListN.{getD}
 use lib.Ieee.{Float, binary64, ofBits, neg, le}
 use Rattle.floats.specs.F64.{_+f_, _-f_, _*f_, _/f_, one64}
 use Rattle.floats.specs.Pick.{magnitudeOf}
-use Rattle.floats.specs.Length.{lengthOf}
+use Rattle.hypot.specs.Hypot.{hypotOf}
 use Rattle.flat.specs.Points.{Point, at, pointBy, cornersOf}
 use Rattle.flat.specs.Flat.{newellOf}
 use Rattle.planes.specs.declared.Plane.{Plane}
@@ -19,10 +19,14 @@ dotOf n p = at n 0 *f at p 0 +f at n 1 *f at p 1 +f at n 2 *f at p 2
 unfoldable pub offsetOf : Point → Point → Float
 offsetOf n p = neg (dotOf n p)
 
--- the plane n · x + d = 0 with its normal brought to length 1: each part times 1 / length, and the offset on the other side
+-- the norm of n: hypot(hypot(x, y), z)
+abbrev pub normOf : Point → Float
+normOf n = hypotOf binary64 (hypotOf binary64 (at n 0) (at n 1)) (at n 2)
+
+-- the plane n · x + d = 0 with its normal brought to length 1: each part times 1 / norm, and the offset on the other side
 unfoldable pub unitPlane : Point → Float → Plane
 unitPlane n d =
-    let inv = one64 /f lengthOf (lengthOf (at n 0) (at n 1)) (at n 2) in
+    let inv = one64 /f normOf n in
     record { n = pointBy 3 (λ k. at n k *f inv); d = neg d *f inv }
 
 -- plane_of_face: the Newell sums of the face's points, and the offset of the first

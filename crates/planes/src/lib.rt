@@ -38,7 +38,7 @@ pub fn offset(n: [f64; 3], p: [f64; 3]) -> f64
 fn unit_plane(n: [f64; 3], d: f64) -> Plane
     ensures { λ r. ⌜ r ≡ unitPlane n d ⌝ }
 {
-    let inv = 1.0 / floats::length(floats::length(n[0], n[1]), n[2]);
+    let inv = 1.0 / hypot::hypot(hypot::hypot(n[0], n[1]), n[2]);
     let unit = [n[0] * inv, n[1] * inv, n[2] * inv];
     Plane {
         n: unit,
@@ -46,7 +46,7 @@ fn unit_plane(n: [f64; 3], d: f64) -> Plane
     }
 }
 
-// The plane of a face. Where the norm is 0 a part of the normal is NaN or infinite, as SCOPE 11 says.
+// The plane of a face. Where 1 / norm is infinite, no part of it is finite, as SCOPE 11 says.
 // Ruled out: each part divided by the norm, which rounds once instead of twice; an offset taken at the last corner.
 pub fn plane_of_face(coords: &[f64], face: &[u32]) -> Plane
     requires { ⌜ Inside (verticesOf (now coords)) (now face) ⌝ }

@@ -15,7 +15,7 @@ pub fn returned(q: &[u64]) -> u64 {
         61 => floats::pattern(abi::leaves::wegrusamt_least(x, y)),
         62 => floats::pattern(abi::leaves::wegrusamt_largest(x, y)),
         63 => floats::pattern(abi::leaves::wegrusamt_root(x)),
-        64 => floats::pattern(abi::leaves::wegrusamt_length(x, y)),
+        64 => floats::pattern(abi::leaves::wegrusamt_hypot(x, y)),
         65 => abi::leaves::wegrusamt_pattern(x),
         66 => floats::pattern(abi::leaves::wegrusamt_of_pattern(word(q, 1))),
         _ => wide(unknown(q)),

@@ -4,7 +4,7 @@ use Prim.Native.Nat.{_*_, _^_}
 use native.Mathlib.Omega.{arith}
 use borrow.Author.Needs.{needs}
 use Rattle.floats.specs.Schoolbook.{Extracted}
-use Rattle.floats.proofs.Steps.{first-size, both, rounded-sized, pattern-is}
+use Rattle.floats.proofs.Steps.{first-size, both, zeros-behind, rounded-sized, pattern-is}
 use Rattle.floats.proofs.square.root_pattern.Statement.{statement}
 use Rattle.floats.proofs.square.root_pattern.Tie as tie
 
@@ -14,8 +14,10 @@ extracted : (c : tie.After-extract2)
 extracted c =
     let scale = c .before .before .scale in
     let first = c .before .extract in
-    both (scale .result .a) (first .result .root) (first .result .rest) (c .extract2 .result .root) (c .extract2 .result .rest)
-    (first .ensures) (c .extract2 .ensures)
+    let root = c .extract2 .result .root in
+    let rest = c .extract2 .result .rest in
+    zeros-behind (scale .result .a) root rest
+    (both (scale .result .a) 0 (first .result .root) (first .result .rest) root rest (first .ensures) (c .extract2 .ensures))
 
 more-requires : tie.Need-extract-requires-2
 more-requires c κs =

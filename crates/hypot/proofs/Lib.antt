@@ -1,0 +1,12 @@
+pub mod Newton
+pub mod Division
+pub mod Limbs
+pub mod Leading
+pub mod Sum
+pub mod Signless
+pub mod Nearest
+pub mod Bounds
+pub mod Worked
+pub mod Unsigned
+pub mod Packing
+pub mod Length

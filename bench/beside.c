@@ -1,7 +1,8 @@
 /* Times two builds of the C names in one run; bench/beside makes the two shared objects and calls this.
  * Each side's time is the median of short rounds taken in turn, and the ratio the median of the ratios of neighbouring
  * rounds. Which side begins changes from one pair of rounds to the next. Before a row is timed both builds are asked once,
- * and a row of which any bit differs is not timed. */
+ * and a row of which any bit differs is not timed. Where one build is from before wegrusamt_hypot, which rounds otherwise
+ * than wegrusamt_length did, the rows that rest on it are held to each other within a tolerance. */
 #include <dlfcn.h>
 #include <math.h>
 #include <stdio.h>
@@ -19,6 +20,13 @@
 #define MOST_WORK 3072
 #define NUMBERS 1023
 #define FULL_CIRCLE 6.283185307179586
+
+/* The name of hypot before it was the nearest number. */
+#define FORMER_HYPOT "wegrusamt_length"
+
+/* How far the answers of two rules for hypot may be apart, as a part of the larger one: far above some last places, and far
+ * below what a fault would make. */
+#define TOLERANCE 1e-12
 
 /* The three lists of a cell, as the entries take them. */
 #define LISTS(cell) (cell).coords, (cell).coords_len, (cell).corners, (cell).corners_len, (cell).ends, (cell).ends_len
@@ -45,23 +53,25 @@ struct build {
     __typeof__(&wegrusamt_triangles) triangles;
     __typeof__(&wegrusamt_volume) volume;
     __typeof__(&wegrusamt_root) root;
-    __typeof__(&wegrusamt_length) length;
+    __typeof__(&wegrusamt_hypot) hypot;
     __typeof__(&wegrusamt_plane_of_face) plane_of_face;
     __typeof__(&wegrusamt_clip_face) clip_face;
     __typeof__(&wegrusamt_convex_intersection_volume) convex_intersection_volume;
+    /* Whether its hypot is that of the former name. */
+    int is_former;
 };
 
 /* The old one and the new one. */
 static struct build builds[2];
 
-/* A row of the table: how its input is made, what is called on it, how often in a round, and how many times this calls the
- * entry. */
+/* A row of the table: how its input is made, what is called on it, how often in a round, how many times this calls the entry,
+ * and whether two rules for hypot give it other last places. */
 struct row {
     const char *name;
     void (*make)(int n);
     int n;
     uint8_t (*call)(const struct build *build);
-    int calls, entries;
+    int calls, entries, rests_on_hypot;
 };
 
 static void *found(void *library, const char *name)
@@ -85,11 +95,12 @@ static struct build loaded(const char *path)
         .triangles = found(library, "wegrusamt_triangles"),
         .volume = found(library, "wegrusamt_volume"),
         .root = found(library, "wegrusamt_root"),
-        .length = found(library, "wegrusamt_length"),
         .plane_of_face = found(library, "wegrusamt_plane_of_face"),
         .clip_face = found(library, "wegrusamt_clip_face"),
         .convex_intersection_volume = found(library, "wegrusamt_convex_intersection_volume"),
+        .is_former = dlsym(library, "wegrusamt_hypot") == NULL && dlsym(library, FORMER_HYPOT) != NULL,
     };
+    build.hypot = found(library, build.is_former ? FORMER_HYPOT : "wegrusamt_hypot");
     return build;
 }
 
@@ -122,10 +133,10 @@ static uint8_t roots(const struct build *build)
     return 0;
 }
 
-static uint8_t lengths(const struct build *build)
+static uint8_t hypots(const struct build *build)
 {
     for (int k = 0; k < NUMBERS; k++) {
-        answers.out[k] = build->length(numbers[k][0], numbers[k][1]);
+        answers.out[k] = build->hypot(numbers[k][0], numbers[k][1]);
     }
     return 0;
 }
@@ -350,21 +361,21 @@ static void two_tilted_prisms(int n)
 /* ---- the table ---- */
 
 static const struct row rows[] = {
-    {"triangles", polygon, 4, cut, 2000, 1},
-    {"triangles", polygon, 64, cut, 40, 1},
-    {"triangles", polygon, 256, cut, 4, 1},
-    {"volume", prism, 4, measure, 400, 1},
-    {"volume", prism, 36, measure, 40, 1},
-    {"volume", prism, 124, measure, 8, 1},
-    {"root", all_exponents, NUMBERS, roots, 1, NUMBERS},
-    {"length", usual_pairs, NUMBERS, lengths, 1, NUMBERS},
-    {"length, a part 0", pairs_with_0, NUMBERS, lengths, 1, NUMBERS},
-    {"plane_of_face, box", box, 4, all_planes, 400, 6},
-    {"plane_of_face, tilted", tilted_prism, 4, all_planes, 400, 6},
-    {"clip_face, box", square_in_box, 4, clip, 400, 1},
-    {"clip_face, tilted", polygon_in_prism, 16, clip, 100, 1},
-    {"convex_intersection_volume, boxes", two_boxes, 4, overlap, 60, 1},
-    {"convex_intersection_volume, tilted", two_tilted_prisms, 16, overlap, 8, 1},
+    {"triangles", polygon, 4, cut, 2000, 1, 0},
+    {"triangles", polygon, 64, cut, 40, 1, 0},
+    {"triangles", polygon, 256, cut, 4, 1, 0},
+    {"volume", prism, 4, measure, 400, 1, 0},
+    {"volume", prism, 36, measure, 40, 1, 0},
+    {"volume", prism, 124, measure, 8, 1, 0},
+    {"root", all_exponents, NUMBERS, roots, 1, NUMBERS, 0},
+    {"hypot", usual_pairs, NUMBERS, hypots, 1, NUMBERS, 1},
+    {"hypot, a part 0", pairs_with_0, NUMBERS, hypots, 1, NUMBERS, 0},
+    {"plane_of_face, box", box, 4, all_planes, 400, 6, 0},
+    {"plane_of_face, tilted", tilted_prism, 4, all_planes, 400, 6, 1},
+    {"clip_face, box", square_in_box, 4, clip, 400, 1, 0},
+    {"clip_face, tilted", polygon_in_prism, 16, clip, 100, 1, 0},
+    {"convex_intersection_volume, boxes", two_boxes, 4, overlap, 60, 1, 0},
+    {"convex_intersection_volume, tilted", two_tilted_prisms, 16, overlap, 8, 1, 1},
 };
 
 static double nanoseconds(void)
@@ -399,7 +410,22 @@ static double median(double *values)
     return values[ROUNDS / 2];
 }
 
-/* Whether both builds write the same bits. */
+static int have_two_rules(void)
+{
+    return builds[0].is_former != builds[1].is_former;
+}
+
+/* Puts the numbers of the one in the place of those of the other that are within the tolerance of them. */
+static void level(const double *one, double *other, int n)
+{
+    for (int k = 0; k < n; k++) {
+        if (fabs(one[k] - other[k]) <= TOLERANCE * fmax(fabs(one[k]), fabs(other[k]))) {
+            other[k] = one[k];
+        }
+    }
+}
+
+/* Whether both builds write the same bits, but for numbers within the tolerance where they may differ. */
 static int are_same(const struct row *row)
 {
     static struct answers of_both[2];
@@ -407,6 +433,9 @@ static int are_same(const struct row *row)
         memset(&answers, 0, sizeof answers);
         check(row->call(&builds[side]), row->name);
         memcpy(&of_both[side], &answers, sizeof answers);
+    }
+    if (row->rests_on_hypot && have_two_rules()) {
+        level(of_both[0].out, of_both[1].out, LENGTH(of_both[0].out));
     }
     return memcmp(&of_both[0], &of_both[1], sizeof answers) == 0;
 }
@@ -426,7 +455,8 @@ static void print_timed(const struct row *row)
         }
         ratios[round] = times[1][round] / times[0][round];
     }
-    printf("%-34s %6zu %12.1f %12.1f %8.3f\n", row->name, size_of(row), median(times[0]), median(times[1]), median(ratios));
+    printf("%-34s %6zu %12.1f %12.1f %8.3f%s\n", row->name, size_of(row), median(times[0]), median(times[1]), median(ratios),
+           row->rests_on_hypot && have_two_rules() ? " *" : "");
 }
 
 /* Holds the two builds to the same answers, and times them; 1 where the answers differ. */
@@ -451,6 +481,10 @@ int main(int argc, char **argv)
     int status = 0, taken = 0;
     builds[0] = loaded(argv[1]);
     builds[1] = loaded(argv[2]);
+    if (have_two_rules()) {
+        printf("one archive has %s, which rounds otherwise than wegrusamt_hypot of the other: the answers of the rows marked * are\n"
+               "held to each other within %g, those of all other rows bit for bit\n", FORMER_HYPOT, TOLERANCE);
+    }
     printf("ns per call, medians of %d rounds taken in turn; the size is in corners of the cell, or in numbers\n", ROUNDS);
     printf("%-34s %6s %12s %12s %8s\n", "entry", "size", "old", "new", "new/old");
     for (const struct row *row = rows; row < rows + LENGTH(rows); row++) {

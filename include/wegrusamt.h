@@ -141,8 +141,10 @@ uint8_t wegrusamt_into_ccw(const double *coords, size_t coords_len, uint32_t *co
                            const uint32_t *ends, size_t ends_len);
 
 /* The plane of one face. out: the unit normal x, y, z, then the offset; inside is normal . p <= offset. A face that
- * has no area by its computed sums (its three Newell sums are all 0) has NaN in all four parts. Where they are not
- * all 0 but the computed length is, a part of the normal is NaN where its sum is 0 and infinite elsewhere. */
+ * has no area by its computed sums (its three Newell sums are all 0) has NaN in all four parts. Where the norm,
+ * wegrusamt_hypot(wegrusamt_hypot(x, y), z) of the sums, is not 0 but at most 2^-1024, 1 / norm overflows: a part
+ * of the normal is NaN where its sum is 0 and infinite elsewhere, and the offset is NaN or infinite. Every other
+ * plane is finite. */
 uint8_t wegrusamt_plane_of_face(const double *coords, size_t coords_len, const uint32_t *corners,
                                 size_t corners_len, const uint32_t *ends, size_t ends_len, uint32_t face,
                                 double *out, size_t out_len);
@@ -258,13 +260,14 @@ uint8_t wegrusamt_plane_coplanar_opposite(double ax, double ay, double az, doubl
 /* ---- leaves on double: any bits, nothing refused ---- */
 
 /* |x|; the lesser and the larger (the other one where one is NaN, the first on a tie); the correctly rounded
- * square root; the root of the rounded sum of the rounded squares, the hypot of SCOPE 1; the bits of a double, and
- * the double of bits. */
+ * square root; hypot as IEEE 754 recommends it, the double nearest to the exact root of the exact sum of squares,
+ * ties to even (of an infinity and anything, a NaN too, +infinity; of a NaN and anything else a NaN; of two zeros
+ * +0); the bits of a double, and the double of bits. */
 double wegrusamt_magnitude(double x);
 double wegrusamt_least(double a, double b);
 double wegrusamt_largest(double a, double b);
 double wegrusamt_root(double x);
-double wegrusamt_length(double x, double y);
+double wegrusamt_hypot(double x, double y);
 uint64_t wegrusamt_pattern(double x);
 double wegrusamt_of_pattern(uint64_t b);
 

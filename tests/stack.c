@@ -92,7 +92,7 @@ static void segment_plane(void) { code = wegrusamt_segment_plane_intersection(0,
 static void leaves(void) {
     out[0] = wegrusamt_cross2(0, 0, 1, 0, 0, 1) + (double)wegrusamt_dominant_axis(1, 2, 3) + wegrusamt_plane_same_side(1, 0, 0, 1, 1, 0, 0, 1, 0)
         + wegrusamt_plane_coplanar_opposite(1, 0, 0, 1, -1, 0, 0, -1, 0) + wegrusamt_magnitude(-2) + wegrusamt_least(1, 2)
-        + wegrusamt_largest(1, 2) + wegrusamt_root(2) + wegrusamt_length(3, 4) + wegrusamt_of_pattern(wegrusamt_pattern(5));
+        + wegrusamt_largest(1, 2) + wegrusamt_root(2) + wegrusamt_hypot(3, 4) + wegrusamt_of_pattern(wegrusamt_pattern(5));
     code = 0;
 }
 static void overlap(void) {

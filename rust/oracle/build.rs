@@ -5,8 +5,8 @@
 //! module sees the private items of its parent, so `reach` can offer them to the outside.
 //!
 //! Three builds are written. `plain` is the text as it is. `ruled` has its calls of `hypot` replaced
-//! by the rule of SCOPE 1. `counted` is the plain text in which each test of turn × direction, as a
-//! face is cut, passes through a counter.
+//! by the rule of SCOPE 1, which is `src/ruled_hypot.rs`. `counted` is the plain text in which each
+//! test of turn × direction, as a face is cut, passes through a counter.
 
 use std::path::{Path, PathBuf};
 use std::{env, fs};
@@ -36,7 +36,7 @@ const CONSERVATIVE_USES: &str = "use super::geometry::polygon::{cross2, signed_a
 const POLYGON_USES: &str = "use crate::standins::{itertools, nalgebra, robust, smallvec};\n";
 
 /// The rule that stands in for `hypot`, under a name that no method of `f64` has.
-const RULE_USES: &str = "use crate::ruled_length::RuledHypot as _;\n";
+const RULE_USES: &str = "use crate::ruled_hypot::RuledHypot as _;\n";
 
 const HYPOT_CALL: &str = ".hypot(";
 const RULED_CALL: &str = ".ruled_hypot(";

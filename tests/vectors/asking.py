@@ -103,7 +103,7 @@ def flat(vertices):
 def oracle_program(name):
     """The path of a program of rust/oracle, which is built first."""
     subprocess.run(['cargo', 'build', '--release', '--offline', '--quiet'], cwd=ORACLE, check=True)
-    return os.path.join(os.environ.get('CARGO_TARGET_DIR', os.path.join(ORACLE, 'target')), 'release', name)
+    return os.path.join(ORACLE, os.environ.get('CARGO_TARGET_DIR', 'target'), 'release', name)
 
 
 class Oracle:

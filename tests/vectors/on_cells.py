@@ -348,15 +348,17 @@ def damaged(oracle, rng):
 
 
 def small_norms():
-    """Triangles whose planes have a norm at the lower end, as cells of two faces, one against the other. Down to 2^-1024 the inverse of
+    """Triangles whose planes have a norm at the lower end, as cells of two faces, one against the other. Up to 2^-1024 the inverse of
     the norm overflows; the norm after that is the first of which it does not, and there are norms that the unmodified Rust rounds to the
     other one of the two."""
     origin, e, f = (0.0, 0.0, 0.0), 2.0 ** -512, 2.0 ** -537
     above = [origin, (e, 0.0, 0.0), (0.0, e, (2.0 ** 25 + 1) * 2.0 ** -562)]
     at = [origin, (0.0, 3.0 * 2.0 ** 24 * f, (1.0 - 2.0 ** 25) * f), (-f, (2.0 ** 25 + 1) * f, 0.0)]
-    rows = [('norm_of_2_to_minus_1024', [origin, (e, 0.0, 0.0), (0.0, e, 0.0)]), ('norm_rounded_down_to_that', at), ('norm_after_that', above),
+    rows = [('norm_of_2_to_minus_1024', [origin, (e, 0.0, 0.0), (0.0, e, 0.0)]),
+            ('norm_rounded_down_to_that', at), ('norm_after_that', above),
             ('norm_of_2_to_minus_1023', [origin, (2.0 * e, 0.0, 0.0), (0.0, e, 0.0)]),
-            ('norm_of_few_digits', [origin, (0.0, e, e / 2), (e, e / 2, e)]), ('norm_of_the_least_number', [origin, (f, 0.0, 0.0), (0.0, f, f)])]
+            ('norm_of_few_digits', [origin, (0.0, e, e / 2), (e, e / 2, e)]),
+            ('norm_of_the_least_number', [origin, (f, 0.0, 0.0), (0.0, f, f)])]
     return [(name, cell_of(vertices, [[0, 1, 2], [2, 1, 0]])) for name, vertices in rows]
 
 

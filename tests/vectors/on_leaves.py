@@ -133,7 +133,7 @@ def hypots(oracle):
         c.said(length)
         ties.append(c)
     beside = [(x, y + step) for x, y, _ in TIES for step in (-1, 1)]
-    # The length of the least number twice is nearest to it; that of two subnormal numbers may be none.
+    # The length of the least number twice is nearest to it; that of two subnormal numbers may be a normal number.
     least = [(1, 1), (1, 2), (2, 2), (3, 4), (0x000C000000000000, 0x000C000000000000), (bits(2.0 ** -1022), 1)]
     # With the largest f64 the first of two neighbours has a length below the middle to 2^1024, and the second one above.
     border = [(bits(LARGEST), 0x7E46A09E667F3BCC), (bits(LARGEST), 0x7E46A09E667F3BCD)]

@@ -10,7 +10,7 @@ use crate::{
 pub const COMPARISONS: [Comparison; 12] = [
     Comparison {
         name: "floats",
-        what: "the leaves on f64 against the machine, over N random patterns and others",
+        what: "the leaves on f64 against the machine, hypot against its rule, over N random patterns and others",
         count: 1_500_000,
         compare: floats::compare,
     },

@@ -60,7 +60,7 @@ fn add_floats(table: &mut Table) {
         least(a: f64 = 0.3, b: f64 = 0.7), ours::least(a, b), a.min(b) => f64;
         largest(a: f64 = 0.3, b: f64 = 0.7), ours::largest(a, b), a.max(b) => f64;
         root(x: f64 = 0.3), ours::root(x), x.sqrt() => f64;
-        length(x: f64 = 0.3, y: f64 = 0.7), ours::length(x, y), x.hypot(y) => f64;
+        hypot(x: f64 = 0.3, y: f64 = 0.7), ours::hypot(x, y), x.hypot(y) => f64;
         pattern(x: f64 = 0.3), ours::pattern(x), x.to_bits() => u64;
         of_pattern(b: u64 = 0x3FF0_0000_0000_0000), ours::of_pattern(b), f64::from_bits(b) => f64;
     }

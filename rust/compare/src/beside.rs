@@ -1,5 +1,5 @@
-//! The unmodified Rust beside the build with the rule of SCOPE 1 for hypot: how often their planes
-//! and overlaps differ, and by what.
+//! The unmodified Rust, with the machine's hypot, beside the build with the rule of SCOPE 1 for it, the
+//! nearest f64: how often their planes and overlaps differ, and by what.
 
 use oracle::{plain, ruled};
 
@@ -18,6 +18,8 @@ const SMALL_SHARE: f64 = 1e-12;
 pub struct Beside {
     title: &'static str,
     planes: Tally,
+    /// The planes that differ in the last places, by units.
+    units: Tally,
     volumes: Tally,
     /// The pairs with a grave difference, by their kind.
     pairs: Tally,
@@ -62,6 +64,7 @@ impl Beside {
         Beside {
             title,
             planes: Tally::new("  planes of faces"),
+            units: Tally::new("  planes that differ in the last places, by units"),
             volumes: Tally::new("  overlaps"),
             pairs: Tally::new("  pairs whose overlaps differ by more than rounding"),
             parts: 0,
@@ -89,7 +92,11 @@ impl Beside {
         let parts = unmodified.iter().zip(ruled);
         self.parts += unmodified.len();
         self.different_parts += parts.filter(|(a, b)| !a.same(**b)).count();
-        self.planes.add(Planes::of(unmodified, ruled));
+        let differ = Planes::of(unmodified, ruled);
+        if let Planes::InLastPlaces = differ {
+            self.units.add(units(unmodified, ruled));
+        }
+        self.planes.add(differ);
     }
 
     fn add_volumes(&mut self, volumes: [f64; 2], kind: Kind, cells: &[Cell; 2]) {
@@ -115,6 +122,7 @@ impl Beside {
     pub fn print(&self) {
         println!("{}", self.title);
         self.planes.print();
+        self.units.print();
         println!(
             "  parts of planes: {} of {} differ",
             self.different_parts, self.parts
@@ -145,22 +153,32 @@ impl Example {
 impl Planes {
     fn of(unmodified: &[f64; 4], ruled: &[f64; 4]) -> Planes {
         let is_finite = |plane: &[f64; 4]| plane.iter().all(|part| part.is_finite());
-        let close = |(a, b): (&f64, &f64)| {
-            a.is_sign_positive() == b.is_sign_positive()
-                && a.to_bits().abs_diff(b.to_bits()) <= LAST_PLACES
-        };
         if same_lists(unmodified, ruled) {
             Planes::Equal
         } else if is_finite(unmodified) && !is_finite(ruled) {
             Planes::FiniteInTheUnmodifiedOnly
         } else if is_finite(ruled) && !is_finite(unmodified) {
             Planes::FiniteInTheRuledOnly
-        } else if unmodified.iter().zip(ruled).all(close) {
+        } else if units(unmodified, ruled) <= LAST_PLACES {
             Planes::InLastPlaces
         } else {
             Planes::InMore
         }
     }
+}
+
+/// By how many units in the last place two planes differ, in the part in which they differ most. On two
+/// sides of 0 it is more than any number of them.
+fn units(unmodified: &[f64; 4], ruled: &[f64; 4]) -> u64 {
+    let of_part = |(a, b): (&f64, &f64)| {
+        if a.is_sign_positive() == b.is_sign_positive() {
+            a.to_bits().abs_diff(b.to_bits())
+        } else {
+            u64::MAX
+        }
+    };
+    let parts = unmodified.iter().zip(ruled).map(of_part);
+    parts.fold(0, u64::max)
 }
 
 impl Volumes {

@@ -31,12 +31,17 @@ const AREA: Entry = Entry {
     values: 1,
 };
 
-/// Clips random faces and as many outlines of the plane, and damaged copies of every fourth.
+/// Clips random faces and as many outlines of the plane, shrunk copies of every eighth face, and damaged
+/// copies of every fourth of both.
 pub fn compare(calls: &mut Calls, count: u64, seed: u64) -> Compared {
     let random = &mut Random::new(seed);
     for _ in 0..count {
         let case = clips::any(random);
         ask(calls, &case, random, by_planes(beside_the_limit))?;
+        if random.once_in(8) {
+            let case = clips::shrunk_to_an_end(&case, random);
+            ask(calls, &case, random, by_planes(beside_the_limit))?;
+        }
         let pair = outlines::any(random);
         ask(calls, &pair, random, by_edges(beside_the_limit))?;
         if random.once_in(4) {

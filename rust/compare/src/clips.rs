@@ -102,6 +102,19 @@ pub fn damaged(mut case: Case, random: &mut Random) -> Case {
     case
 }
 
+/// The same so small that the square of the tolerance within which points are doubled, 2^-46 of the
+/// largest coordinate, lies about 1e-300. Down to there the port knows the root of a rounded square
+/// without taking it.
+pub fn shrunk_to_an_end(case: &Case, random: &mut Random) -> Case {
+    let by = 0.5_f64.powi(random.between(448, 456) as i32);
+    let mut case = case.clone();
+    case.cell.coords.iter_mut().for_each(|x| *x *= by);
+    let offsets = case.planes.iter_mut().skip(3).step_by(4);
+    offsets.for_each(|offset| *offset *= by);
+    case.eps *= by;
+    case
+}
+
 /// A plane near an outline, mostly with the middle of the outline inside.
 fn any_plane(cell: &Cell, outline: &[Vector], random: &mut Random) -> [f64; 4] {
     let points = if outline.is_empty() {

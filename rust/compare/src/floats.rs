@@ -1,5 +1,5 @@
-//! `compare floats`: the proved leaves on f64 and the machine's own, bit for bit; and how long the root
-//! takes.
+//! `compare floats`: the proved leaves on f64 and the machine's own, bit for bit, `hypot` and the rule of
+//! SCOPE 1 in whole numbers, since the machine's need not be the nearest; and how long the root takes.
 
 use std::hint::black_box;
 use std::time::Instant;
@@ -7,15 +7,15 @@ use std::time::Instant;
 use crate::calls::Calls;
 use crate::comparison::{Compared, ask};
 use crate::leaves::Numbers;
-use crate::ours;
 use crate::random::Random;
+use crate::{hypots, ours};
 
 const SIGN: u64 = 1 << 63;
-const INFINITY: u64 = 0x7ff << 52;
+pub const INFINITY: u64 = 0x7ff << 52;
 const NAN: u64 = 0x7ff8 << 48;
 
 /// How many different digits can stand behind an exponent.
-const DIGITS: u64 = 1 << 52;
+pub const DIGITS: u64 = 1 << 52;
 
 /// Compares so many random patterns, and other kinds in proportion.
 pub fn compare(calls: &mut Calls, count: u64, seed: u64) -> Compared {
@@ -25,6 +25,13 @@ pub fn compare(calls: &mut Calls, count: u64, seed: u64) -> Compared {
         for pattern in patterns {
             let other = beside(pattern, random);
             ask_two(calls, [pattern, other], random)?;
+        }
+    }
+    for (kind, pairs) in hypots::pairs(count / 15, random) {
+        println!("{:>9} {kind}", pairs.len());
+        for pair in pairs {
+            let signs = [(); 2].map(|()| random.bits() & SIGN);
+            ask_two(calls, [pair[0] | signs[0], pair[1] | signs[1]], random)?;
         }
     }
     let special = special();
@@ -64,7 +71,7 @@ fn of_two(calls: &mut Calls, x: f64, y: f64) {
     let (least, largest) = if tied { (x, x) } else { (a.min(b), a.max(b)) };
     calls.gave("least", ours::least(x, y), least);
     calls.gave("largest", ours::largest(x, y), largest);
-    calls.gave("length", ours::length(x, y), (x * x + y * y).sqrt());
+    calls.gave("hypot", ours::hypot(x, y), oracle::hypot(x, y));
 }
 
 /// The patterns of single numbers, by kind.
@@ -93,14 +100,10 @@ fn patterns(count: u64, random: &mut Random) -> Vec<(&'static str, Vec<u64>)> {
             "beside boundaries at a carry",
             (1..count / 30).flat_map(beside_a_carry).collect(),
         ),
-        (
-            "squares beside 1e-300 and 1e300",
-            many(count / 30, || beside_an_end(random)),
-        ),
     ]
 }
 
-fn any_digits(random: &mut Random) -> u64 {
+pub fn any_digits(random: &mut Random) -> u64 {
     random.bits() % DIGITS
 }
 
@@ -186,12 +189,6 @@ fn beside_a_carry(step: u64) -> [u64; 4] {
     let [below, above] = [2 * digits - u128::from(step), digits + u128::from(step)]
         .map(|q| from_digits(q * q + q, (step % 300) as i32));
     [below, below + 1, above, above + 1]
-}
-
-/// Numbers whose squares lie beside 1e-300 and 1e300: between these ends `length` takes no root where one
-/// of its squares vanishes beside the other.
-fn beside_an_end(random: &mut Random) -> [u64; 2] {
-    [1e-150, 1e150].map(|root: f64| root.to_bits() - 100 + random.below(200) as u64)
 }
 
 /// The pattern of the value nearest to m / 2^(2j) from below, for m of up to 106 binary digits.

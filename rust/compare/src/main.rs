@@ -20,6 +20,7 @@ mod cut_judge;
 mod cut_lists;
 mod faces;
 mod floats;
+mod hypots;
 mod leaves;
 mod limits;
 mod lists;

@@ -177,7 +177,7 @@ leaves! {
     least(a: f64, b: f64) -> f64;
     largest(a: f64, b: f64) -> f64;
     root(x: f64) -> f64;
-    length(x: f64, y: f64) -> f64;
+    hypot(x: f64, y: f64) -> f64;
     pattern(x: f64) -> u64;
     of_pattern(b: u64) -> f64;
 }

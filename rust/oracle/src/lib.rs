@@ -19,11 +19,12 @@ compile_error!("the oracle speaks for a release build: build it with debug asser
 mod cell;
 mod mesh;
 pub mod protocol;
-mod ruled_length;
+mod ruled_hypot;
 mod standins;
 mod turn_tests;
 
 pub use cell::{Cell, Shape};
+pub use ruled_hypot::hypot;
 
 /// The Rust as it is.
 pub mod plain {

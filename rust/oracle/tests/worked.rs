@@ -182,13 +182,33 @@ fn the_least_number_has_its_root() {
     assert_eq!(both!(area_polygon3(&points)), root / 2.0);
 }
 
-/// Where `plain` and `ruled` part: sums whose squares underflow.
+/// A right angle at the origin with sides of these lengths, in the plane of the first two axes.
+fn right_angle(x: f64, y: f64) -> [[f64; 3]; 3] {
+    [[0.0; 3], [x, 0.0, 0.0], [0.0, y, 0.0]]
+}
+
+/// Squares of sums that underflow cost nothing: the plane is as it should be down to a length of
+/// 2^-1023.
 #[test]
-fn the_rule_loses_small_lengths() {
-    let tiny = 2.0_f64.powi(-300);
-    let points = [[0.0, 0.0, 0.0], [tiny, 0.0, 0.0], [0.0, tiny, 0.0]];
-    let face = [0, 1, 2];
-    assert_eq!(plain::plane_of_face(&points, &face)[2], 1.0);
-    assert_eq!(ruled::plane_of_face(&points, &face)[2], f64::INFINITY);
-    assert!(ruled::plane_of_face(&points, &face)[0].is_nan());
+fn small_lengths_are_kept() {
+    for power in [-269, -300, -500, -511] {
+        let tiny = 2.0_f64.powi(power);
+        let points = right_angle(tiny, tiny / 2.0);
+        let plane = both!(plane_of_face(&points, &[0, 1, 2]));
+        assert_eq!(plane, [0.0, 0.0, 1.0, 0.0]);
+    }
+}
+
+/// From a length of 2^-1024 down its inverse overflows.
+#[test]
+fn the_inverse_of_a_length_overflows() {
+    for power in [-512, -537] {
+        let tiny = 2.0_f64.powi(power);
+        let points = right_angle(tiny, tiny);
+        for plane_of_face in [plain::plane_of_face, ruled::plane_of_face] {
+            let [x, y, z, offset] = plane_of_face(&points, &[0, 1, 2]);
+            assert!(x.is_nan() && y.is_nan() && offset.is_nan());
+            assert_eq!(z, f64::INFINITY);
+        }
+    }
 }

@@ -270,7 +270,7 @@ leaves! {
     wegrusamt_least least(a, b) -> f64;
     wegrusamt_largest largest(a, b) -> f64;
     wegrusamt_root root(x) -> f64;
-    wegrusamt_length length(x, y) -> f64;
+    wegrusamt_hypot hypot(x, y) -> f64;
     wegrusamt_cross2 cross2(ax, ay, bx, by, cx, cy) -> f64;
     wegrusamt_dominant_axis dominant_axis(x, y, z) -> usize;
     wegrusamt_plane_same_side plane_same_side(ax, ay, az, ad, bx, by, bz, bd, tolerance) -> u8;

@@ -29,8 +29,13 @@ pub fn root(x: f64) -> f64 {
     c::root(x)
 }
 
-/// The root of the rounded sum of the rounded squares, which SCOPE 1 puts in the place of
-/// `hypot`. It overflows where a square does.
-pub fn length(x: f64, y: f64) -> f64 {
-    c::length(x, y)
+/// `hypot` as IEEE 754 recommends it: the number nearest to the exact root of the exact sum of
+/// squares, ties to even. No square overflows or underflows on the way. Of an infinity and anything,
+/// a NaN too, it is infinite; of a NaN and anything else a NaN.
+///
+/// ```
+/// assert_eq!(wegrusamt::floats::hypot(3e-200, -4e-200), 5e-200);
+/// ```
+pub fn hypot(x: f64, y: f64) -> f64 {
+    c::hypot(x, y)
 }

@@ -733,7 +733,6 @@ fn leaves_are_asked() {
     assert_eq!(floats::least(f64::NAN, 1.0), 1.0);
     assert_eq!(floats::largest(2.0, 1.0), 2.0);
     assert_eq!(floats::root(f64::from_bits(1)), 2.0_f64.powi(-537));
-    assert_eq!(floats::length(3.0, 4.0), 5.0);
     assert_eq!(leaves::cross2([0.0, 0.0], [2.0, 0.0], [0.0, -3.0]), -6.0);
     assert_eq!(leaves::dominant_axis([1.0, -2.0, 2.0]), 1);
     assert_eq!(leaves::project2([1.0, 2.0, 3.0], 0), [2.0, 3.0]);
@@ -741,6 +740,38 @@ fn leaves_are_asked() {
     let [a, b, p, q] = [[0.0, 0.0], [2.0, 0.0], [1.0, -1.0], [1.0, 3.0]];
     assert_eq!(leaves::segment_intersection(a, b, p, q), [1.0, 0.0]);
     assert_eq!(leaves::segment_intersection(a, b, a, b), b);
+}
+
+#[test]
+fn hypot_is_the_nearest_number() {
+    assert_eq!(floats::hypot(3.0, 4.0), 5.0);
+    assert_eq!(floats::hypot(-0.0, -0.0).to_bits(), 0.0_f64.to_bits());
+    // An infinity comes before a NaN.
+    assert_eq!(floats::hypot(f64::NAN, f64::NEG_INFINITY), f64::INFINITY);
+    assert!(floats::hypot(f64::NAN, 1.0).is_nan());
+    // Squares that underflow or overflow cost nothing.
+    let least = f64::from_bits(1);
+    assert_eq!(floats::hypot(least, -least), least);
+    assert_eq!(floats::hypot(3.0 * least, 4.0 * least), 5.0 * least);
+    let large = 2.0_f64.powi(1000);
+    assert_eq!(floats::hypot(3.0 * large, 4.0 * large), 5.0 * large);
+    assert_eq!(floats::hypot(f64::MAX, f64::MAX), f64::INFINITY);
+    // Two lengths in the middle of two numbers: the even one is above the first and below the second.
+    for [x, y, length] in [
+        [
+            0x433F_A26A_FDDB_0384,
+            0x4326_C8F2_A305_5062,
+            0x4340_CFC8_73E3_E534,
+        ],
+        [
+            0x4342_9899_D5AB_D726,
+            0x432A_575D_458A_CB06,
+            0x4343_BA49_0718_AC62,
+        ],
+    ] {
+        let [x, y] = [x, y].map(f64::from_bits);
+        assert_eq!(floats::hypot(x, y).to_bits(), length);
+    }
 }
 
 #[test]

@@ -114,8 +114,8 @@ fn planes_by_three_units() {
     );
 }
 
-/// A length below 2^-1022 has fewer digits, and one unit of it is more: glibc rounds it to 53 digits
-/// first and then once more.
+/// A length below 2^-1022 has fewer digits, and one unit of it is more: glibc seems to round it to 53
+/// digits first and then once more.
 #[test]
 fn shrunk_planes_by_five_units() {
     let e = two_to(-513);

@@ -14,12 +14,13 @@ use Rattle.geometry.specs.declared.CutCounts.{CutCounts}
 use Rattle.geometry.specs.declared.FaceCut.{FaceCut}
 use Rattle.geometry.specs.declared.Place.{Place}
 use Rattle.geometry.specs.declared.Done.{Done}
+use Rattle.geometry.specs.declared.Overlapped.{Overlapped}
 use Rattle.geometry.specs.declared.Clipped.{Clipped}
 use Rattle.geometry.specs.Points.{toLocalAnswer, localOriginAnswer}
 use Rattle.geometry.proofs.Answers.{origin-alike}
 use Rattle.geometry.specs.TurnFaces.{canTurnAnswer, TurnFacesGives}
 use Rattle.geometry.specs.Listed.{Listed, Reply, told, written, ofNumber, ofCount, ofFaceCut, ofDone, doneTold, ofShape, clippingTold}
-use Rattle.geometry.specs.Listed.{measureTold, ofPlace, countTold, toLocalTold, codeWithoutRoom, TurnFacesTold}
+use Rattle.geometry.specs.Listed.{measureTold, ofOverlapped, overlapTold, ofPlace, countTold, toLocalTold, codeWithoutRoom, TurnFacesTold}
 
 -- ---- beside the work lists
 pub shown-by : {c d : Clipped × List Float × List Float} → c ≡ d → (shown : List ℕ) {t : ℕ × List ℕ × List Float × List Float}
@@ -30,6 +31,11 @@ pub measured-by : {a : Number} {first second : List Float} {answer : Number × L
     → (out : List Float) {r : ℕ} {out′ : List Float} → told r out′ [] ≡ written (ofNumber a) out [] →
     (r, out′, first, second) ≡ measureTold answer out
 measured-by e out p = rw (← e, ap (λ (t : Reply). t .0) p, ap (λ (t : Reply). t .1) p)
+
+pub overlapped-by : {a : Overlapped} {first second : List Float} {answer : Overlapped × List Float × List Float}
+    → (a, first, second) ≡ answer → (out : List Float) (arealess : List ℕ) {r : ℕ} {out′ : List Float} {arealess′ : List ℕ}
+    → told r out′ arealess′ ≡ written (ofOverlapped a) out arealess → (r, out′, arealess′, first, second) ≡ overlapTold answer out arealess
+overlapped-by e out arealess p = rw (← e, ap (λ (t : Reply). t .0) p, ap (λ (t : Reply). t .1) p, ap (λ (t : Reply). t .2) p)
 
 -- ---- beside a list that is turned
 pub done-by : {L : Type 0} {a : Done} {list : L} {answer : Done × L} {r : ℕ} → (a, list) ≡ answer → told r [] [] ≡ written (ofDone a) [] []

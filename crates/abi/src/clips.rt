@@ -2,7 +2,7 @@
 ghost use mathlib.Core.Path.{_≡_};
 ghost use Rattle.places.specs.Lent.{old, new};
 ghost use Rattle.geometry.specs.Clipping.{clipFaceAnswer, clipConvexAnswer, overlapAreaAnswer, overlapAnswer};
-ghost use Rattle.geometry.specs.Listed.{clippingTold, measureTold};
+ghost use Rattle.geometry.specs.Listed.{clippingTold, measureTold, overlapTold};
 
 // What is shown: how many points are left, 0 for nothing, and 1 where they stand in the second work list. Without room for both numbers
 // nothing is shown.
@@ -66,9 +66,10 @@ pub extern "C" fn wegrusamt_convex_intersection_volume(
     first: &mut [f64],
     second: &mut [f64],
     out: &mut [f64],
+    arealess: &mut [usize],
 ) -> u8
-    ensures { λ r. ⌜ (r, new out, new first, new second) ≡ measureTold (overlapAnswer (old coords) (old corners) (old ends)
-        (old coords2) (old corners2) (old ends2) (old first) (old second)) (old out) ⌝ }
+    ensures { λ r. ⌜ (r, new out, new arealess, new first, new second) ≡ overlapTold (overlapAnswer (old coords) (old corners) (old ends)
+        (old coords2) (old corners2) (old ends2) (old first) (old second)) (old out) (old arealess) ⌝ }
 {
     let a = geometry::clipping::convex_intersection_volume(
         coords,
@@ -80,5 +81,5 @@ pub extern "C" fn wegrusamt_convex_intersection_volume(
         first,
         second,
     );
-    answer_lists::put_number(a, out)
+    answer_lists::put_overlapped(a, out, arealess)
 }

@@ -2,7 +2,7 @@
 ghost use mathlib.Core.Path.{_≡_};
 ghost use mathlib.Core.List.{[]};
 ghost use Rattle.places.specs.Lent.{old, new};
-ghost use Rattle.geometry.specs.Cells.{describeAnswer, isConvexAnswer, intoCcwAnswer, planeOfFaceAnswer};
+ghost use Rattle.geometry.specs.Cells.{describeAnswer, isConvexAnswer, intoCcwAnswer, planeOfFaceAnswer, noAreaFacesAnswer};
 ghost use Rattle.geometry.specs.Listed.{told, written, shapeKnown, ofTruth, ofDescribed, doneTold, ofFacePlane, TurnFacesTold};
 
 #[no_mangle]
@@ -74,6 +74,7 @@ pub extern "C" fn wegrusamt_turn_faces(
     answer_lists::put_count(geometry::turn_faces(coords, corners, ends), out)
 }
 
+// Four numbers and 1; or 0 alone, where the face has no area.
 #[no_mangle]
 pub extern "C" fn wegrusamt_plane_of_face(
     coords: &[f64],
@@ -81,9 +82,26 @@ pub extern "C" fn wegrusamt_plane_of_face(
     ends: &[u32],
     face: u32,
     out: &mut [f64],
+    area: &mut [usize],
 ) -> u8
-    ensures { λ r. ⌜ told r (new out) [] ≡ written (ofFacePlane (planeOfFaceAnswer (old coords) (old corners) (old ends) face))
-        (old out) [] ⌝ }
+    ensures { λ r. ⌜ told r (new out) (new area) ≡ written (ofFacePlane (planeOfFaceAnswer (old coords) (old corners) (old ends) face))
+        (old out) (old area) ⌝ }
 {
-    answer_lists::put_face_plane(geometry::plane_of_face(coords, corners, ends, face), out)
+    answer_lists::put_face_plane(
+        geometry::plane_of_face(coords, corners, ends, face),
+        out,
+        area,
+    )
+}
+
+#[no_mangle]
+pub extern "C" fn wegrusamt_no_area_faces(
+    coords: &[f64],
+    corners: &[u32],
+    ends: &[u32],
+    out: &mut [usize],
+) -> u8
+    ensures { λ r. ⌜ (r, new out) ≡ doneTold (noAreaFacesAnswer (old coords) (old corners) (old ends) (old out)) ⌝ }
+{
+    answer_lists::done_code(geometry::no_area_faces(coords, corners, ends, out))
 }

@@ -1,11 +1,10 @@
 -- Values written one by one to the front of a list, and what a caller is told of them.
 use mathlib.Core.Path.{_≡_, refl, sym, _∙_, ap}
 use mathlib.Core.Logic.{_≢_}
-use mathlib.Core.Bool.{Bool, true, false, _||_}
-use mathlib.Core.List.{List, [], _∷_, _++_, append-assoc}
-use Prim.Native.Nat.{ℕ, suc, _+_, _≤_, _<_}
+use mathlib.Core.Bool.{Bool, true, false}
+use mathlib.Core.List.{List, [], _++_, append-assoc}
+use Prim.Native.Nat.{ℕ, suc, _+_, _≤_, _<_, zero-le}
 use native.Mathlib.Omega.{arith}
-use lib.Dec.{ltb}
 use lib.ListN.{length, getD, set, take, drop, length-append, length-drop}
 use lib.Seq.{take-suc, drop-cons, set-at, take-all, length-take-le}
 use lib.Ieee.{Float}
@@ -46,11 +45,6 @@ module _ {A : Type 0} {vs before : List A} where
       let e : i ≡ length vs = omega (arith, c .within) in
       c .so ∙ rw (e, take-all (length vs) vs (omega arith))
 
--- one value written at the front
-pub set-first : {A : Type 0} (x : A) (list : List A) → 1 ≤ length list → set list 0 x ≡ front (x ∷ []) list
-set-first x [] h = absurd (omega arith)
-set-first x (y ∷ ys) h = refl
-
 -- ---- what a caller is told of numbers alone, and of counts alone
 module _ (vs xs : List Float) where
   pub numbers-short : length xs < length vs → told 6 xs [] ≡ written (values vs []) xs []
@@ -65,6 +59,19 @@ module _ (ms ns : List ℕ) where
 
   pub counts-put : {after : List ℕ} → length ms ≤ length ns → after ≡ front ms ns → told 0 [] after ≡ written (values [] ms) [] ns
   counts-put h e = rw (le-ltb (length ns) (length ms) h, e)
+
+-- counts beside a list of numbers that is not written to
+pub counts-beside : (ms : List ℕ) (xs : List Float) (ns : List ℕ) {code : ℕ} {after : List ℕ}
+    → told code [] after ≡ written (values [] ms) [] ns → told code xs after ≡ written (values [] ms) xs ns
+counts-beside ms xs ns {code} {after} e = go (tooShort ms ns) refl
+  where
+    go : (b : Bool) → tooShort ms ns ≡ b → told code xs after ≡ written (values [] ms) xs ns
+    go true s =
+        let all : told code [] after ≡ told 6 [] ns = e ∙ rw s in
+        rw (le-ltb (length xs) 0 zero-le, s, ap (λ (t : Reply). t .0) all, ap (λ (t : Reply). t .2) all)
+    go false s =
+        let all : told code [] after ≡ told 0 [] (front ms ns) = e ∙ rw s in
+        rw (le-ltb (length xs) 0 zero-le, s, ap (λ (t : Reply). t .0) all, ap (λ (t : Reply). t .2) all)
 
 -- ---- of numbers and counts together: into neither list unless both have the room
 module _ (vs : List Float) (ms : List ℕ) (xs : List Float) (ns : List ℕ) where
@@ -86,12 +93,20 @@ module _ (vs : List Float) (ms : List ℕ) (xs : List Float) (ns : List ℕ) whe
         go true e = rw (le-ltb (length xs) (length vs) h, code-is, after-is, e)
         go false e = absurd (n (code-is ∙ rw e))
 
-    pub both-put : {put : List Float} → code ≡ 0 → put ≡ front vs xs → told 0 put after ≡ written (values vs ms) xs ns
-    both-put {put} z p = go (tooShort ms ns) refl
+    -- and the numbers are then put
+    pub both-put : {r : ℕ} {put : List Float} → code ≡ 0 → told r put [] ≡ written (values vs []) xs []
+        → told r put after ≡ written (values vs ms) xs ns
+    both-put {r} {put} z p = go (tooShort ms ns) refl
       where
-        go : (b : Bool) → tooShort ms ns ≡ b → told 0 put after ≡ written (values vs ms) xs ns
+        room : tooShort vs xs ≡ false
+        room = le-ltb (length xs) (length vs) h
+
+        all : told r put [] ≡ told 0 (front vs xs) []
+        all = p ∙ rw room
+
+        go : (b : Bool) → tooShort ms ns ≡ b → told r put after ≡ written (values vs ms) xs ns
         go true e = absurd (let six : 0 ≡ 6 = sym z ∙ code-is ∙ rw e in omega arith)
-        go false e = rw (le-ltb (length xs) (length vs) h, after-is, e, p)
+        go false e = rw (room, after-is, e, ap (λ (t : Reply). t .0) all, ap (λ (t : Reply). t .1) all)
 
 -- ---- of a clipping
 module _ (a : Clipped) (shown : List ℕ) (first second : List Float) where

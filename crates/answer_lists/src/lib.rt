@@ -10,6 +10,7 @@ ghost use Rattle.geometry.specs.declared.Surveyed.{Surveyed};
 ghost use Rattle.geometry.specs.declared.Described.{Described};
 ghost use Rattle.geometry.specs.Listed.{told, values, written, shapeNumber, ofNumber, ofTruth, ofCount, ofFaceCut, ofPlace};
 ghost use Rattle.geometry.specs.Listed.{ofPlanePlace, ofExtent, ofPlaneExtent, ofDone, ofSurveyed, ofDescribed, ofFacePlane, ofClipped};
+ghost use Rattle.geometry.specs.Listed.{ofOverlapped};
 ghost use Rattle.geometry.specs.Listed.{codeWithoutRoom};
 
 // 1 for yes, 0 for no, as a byte, which a function answers.
@@ -50,6 +51,21 @@ pub fn put_counts(vs: &[usize], out: &mut [usize]) -> u8
         i += 1;
     }
     0
+}
+
+// Numbers at the front of one list and counts at that of another, in neither unless both have the room.
+// Ruled out: numbers written where the counts have no room; counts written where the numbers have none.
+pub fn put_both(vs: &[f64], ms: &[usize], out: &mut [f64], counts: &mut [usize]) -> u8
+    ensures { λ r. ⌜ told r (new out) (new counts) ≡ written (values (old vs) (old ms)) (old out) (old counts) ⌝ }
+{
+    if out.len() < vs.len() {
+        return 6;
+    }
+    let code = put_counts(ms, counts);
+    if code != 0 {
+        return code;
+    }
+    put(vs, out)
 }
 
 // An answer: the refusal, or its values at the front of the list.
@@ -147,7 +163,7 @@ pub fn untold(a: geometry::Done) -> u8
     }
 }
 
-// A survey goes into two lists, and into neither unless both have the room.
+// A survey goes into two lists.
 pub fn put_surveyed(a: geometry::Surveyed, counts: &mut [usize], volume: &mut [f64]) -> u8
     ensures { λ r. ⌜ told r (new volume) (new counts) ≡ written (ofSurveyed a) (old volume) (old counts) ⌝ }
 {
@@ -160,18 +176,12 @@ pub fn put_surveyed(a: geometry::Surveyed, counts: &mut [usize], volume: &mut [f
 fn put_survey(s: geometry::Findings, counts: &mut [usize], volume: &mut [f64]) -> u8
     ensures { λ r. ⌜ told r (new volume) (new counts) ≡ written (ofSurveyed (Surveyed.Is s)) (old volume) (old counts) ⌝ }
 {
-    if volume.len() < 1 {
-        return 6;
-    }
-    let code = put_counts(
+    put_both(
+        &[s.volume],
         &[s.triangles, places::one_if(s.closed), s.short, s.contained],
+        volume,
         counts,
-    );
-    if code != 0 {
-        return code;
-    }
-    volume[0] = s.volume;
-    0
+    )
 }
 
 // What is known of a shape, as a number.
@@ -202,15 +212,31 @@ pub fn put_described(a: geometry::Described, out: &mut [usize]) -> u8
     }
 }
 
-// The plane of a face: its normal, then its offset.
-pub fn put_face_plane(a: geometry::FacePlane, out: &mut [f64]) -> u8
-    ensures { λ r. ⌜ told r (new out) [] ≡ written (ofFacePlane a) (old out) [] ⌝ }
+// The plane of a face: its normal, then its offset, and 1; for a face of no area 0 alone.
+pub fn put_face_plane(a: geometry::FacePlane, out: &mut [f64], area: &mut [usize]) -> u8
+    ensures { λ r. ⌜ told r (new out) (new area) ≡ written (ofFacePlane a) (old out) (old area) ⌝ }
 {
     let answer = a.answer;
     let p = a.plane;
     match answer {
-        geometry::PlaneAnswer::Is => put(&[p.n[0], p.n[1], p.n[2], p.d], out),
+        geometry::PlaneAnswer::Is => put_both(&[p.n[0], p.n[1], p.n[2], p.d], &[1], out, area),
+        geometry::PlaneAnswer::NoArea => put_counts(&[0], area),
         geometry::PlaneAnswer::Refused(why) => why,
+    }
+}
+
+// The overlap of two cells: its volume, and how many faces of the first and of the second have no area.
+pub fn put_overlapped(a: geometry::Overlapped, out: &mut [f64], arealess: &mut [usize]) -> u8
+    ensures { λ r. ⌜ told r (new out) (new arealess) ≡ written (ofOverlapped a) (old out) (old arealess) ⌝ }
+{
+    match a {
+        geometry::Overlapped::Is(o) => put_both(
+            &[o.volume],
+            &[o.arealess, o.arealess2],
+            out,
+            arealess,
+        ),
+        geometry::Overlapped::Refused(why) => why,
     }
 }
 

@@ -122,7 +122,7 @@ module _ {es : List ℕ} {n : ℕ} {refused : Bool} where
   falls-end l h e = e ∙ rw (drop-of-length-le es h) at (l .so)
 
 -- ---- faces by their number
-faces-length : (p : ℕ) (c es : List ℕ) → length (facesFrom p c es) ≡ length es
+pub faces-length : (p : ℕ) (c es : List ℕ) → length (facesFrom p c es) ≡ length es
 faces-length p c [] = refl
 faces-length p c (e ∷ es) = ap suc (faces-length e c es)
 

@@ -1,9 +1,9 @@
 -- A clipping of an outline that has points never ends with an outline of 0 points: a plane that cuts leaves at least 3.
-use mathlib.Core.Bool.{Bool, true, false, cond}
+use mathlib.Core.Bool.{Bool, true, false, not, cond}
 use mathlib.Core.List.{List, [], _∷_}
-use Prim.Native.Nat.{ℕ, _<_}
+use Prim.Native.Nat.{ℕ, _<_, _≤_}
 use native.Mathlib.Omega.{arith}
-use lib.Dec.{ltb, eqb}
+use lib.Dec.{T, ltb, eqb, nltb→le}
 use lib.ListN.{length}
 use lib.Ieee.{Float}
 use Rattle.places.specs.Loops.{countOf}
@@ -14,12 +14,12 @@ use Rattle.clip_step.specs.ClipStep.{trimmedBy}
 use Rattle.clip_step.specs.Doubled.{withoutDoubled}
 use Rattle.clip.specs.Clip.{beyond, cutChange, planeChange, clipFaceOf}
 
--- where a plane made another outline it has points, and where an outline is left it has
+-- where a plane made another outline it has at least 3 points, and where an outline is left it has points
 pub data MadePoints : Change → Type 0 where
   made-whole : MadePoints whole
   made-gone : MadePoints gone
   made-full : MadePoints full
-  made-some : {ps : List Point} → 0 < length ps → MadePoints (made ps)
+  made-some : {ps : List Point} → 3 ≤ length ps → MadePoints (made ps)
 
 pub data LeftPoints : Outcome → Type 0 where
   left-nothing : LeftPoints nothing
@@ -37,14 +37,17 @@ left-either false h g = g
 
 -- ---- one plane
 under-three : (ps : List Point) → MadePoints (cond (ltb (length ps) 3) gone (made ps))
-under-three [] = made-gone
-under-three (p ∷ ps) = made-either (ltb (length (p ∷ ps)) 3) made-gone (made-some (omega arith))
+under-three ps = go (ltb (length ps) 3) (nltb→le (length ps) 3)
+  where
+    go : (b : Bool) → (T (not b) → 3 ≤ length ps) → MadePoints (cond b gone (made ps))
+    go true h = made-gone
+    go false h = made-some (h tt)
 
 cut-points : (room : ℕ) (cut : List Point) → MadePoints (cutChange room cut)
 unfolding cutChange
 cut-points room cut = made-either (ltb room (length cut)) made-full (under-three (withoutDoubled cut))
 
-plane-points : (room : ℕ) (eps : Float) (plane : Plane) (ps : List Point) → MadePoints (planeChange room eps plane ps)
+pub plane-points : (room : ℕ) (eps : Float) (plane : Plane) (ps : List Point) → MadePoints (planeChange room eps plane ps)
 unfolding planeChange
 plane-points room eps plane ps =
     let out = countOf (beyond plane eps) ps in
@@ -56,7 +59,7 @@ left-points : {c : Change} (second : Bool) (ps : List Point) → MadePoints c �
 left-points second ps made-whole h = left-some h
 left-points second ps made-gone h = left-nothing
 left-points second ps made-full h = left-no-room
-left-points second ps (made-some g) h = left-some g
+left-points second ps (made-some {ps = qs} g) h = left-some {ps = qs} (omega arith)
 
 run-points : (room : ℕ) (eps : Float) (planes : List Plane) {o : Outcome} → LeftPoints o
     → LeftPoints (runOf (planeChange room eps) planes o)

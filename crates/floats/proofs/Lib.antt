@@ -19,4 +19,7 @@ pub mod Order
 pub mod AtMost
 pub mod Inverse
 pub mod Within
+pub mod Zeros
+pub mod Itself
+pub mod PlusZero
 pub mod Worked

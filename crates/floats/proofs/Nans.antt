@@ -1,10 +1,11 @@
--- The NaN: what the test `x != x` says of x, how code makes one, and which patterns are one's.
+-- The NaN: what the test `x != x` says of x, how code makes one, which patterns are one's, and what comes of one: every sum, difference and
+-- product with it is a NaN, and no comparison with it holds.
 use mathlib.Core.Path.{_≡_, refl, sym, _∙_, subst}
 use mathlib.Core.Bool.{Bool, true, false, not}
 use Prim.Native.Nat.{ℕ, _%_, _^_, _<_, _≤_}
 use lib.Dec.{T}
 use borrow.Author.Tests.{lt-ltb, le-ltb}
-use lib.Ieee.{Float, nan, inf, fin, binary64, div, ne, isNan, ofBits, toBits, nanBits}
+use lib.Ieee.{Float, nan, inf, fin, Format, binary64, neg, add, sub, mul, div, lt, eq, le, ne, isNan, ofBits, toBits, nanBits}
 use lib.Ieee.Bits.{nanBits-is, nanBits-above}
 use lib.Ieee.Compare.{differs-from-itself, nan-differs}
 
@@ -51,3 +52,32 @@ above-infinity b h =
 
 pub up-to-infinity : (b : ℕ) → b % 2 ^ 63 ≤ 0x7ff0_0000_0000_0000 → T (not (nanBits binary64 b))
 up-to-infinity b h = fails (nanBits-above binary64 b ∙ le-ltb 0x7ff0_0000_0000_0000 (b % 2 ^ 63) h)
+
+-- ---- what comes of one as the second operand; of one as the first it is a matter of definition
+pub plus-nan : (f : Format) (x : Float) → add f x nan ≡ nan
+unfolding add
+plus-nan f nan = refl
+plus-nan f (inf s) = refl
+plus-nan f (fin s m e) = refl
+
+pub minus-nan : (f : Format) (x : Float) → sub f x nan ≡ nan
+unfolding sub neg
+minus-nan f x = plus-nan f x
+
+pub times-nan : (f : Format) (x : Float) → mul f x nan ≡ nan
+unfolding mul
+times-nan f nan = refl
+times-nan f (inf s) = refl
+times-nan f (fin s m e) = refl
+
+pub not-below-nan : (x : Float) → lt x nan ≡ false
+unfolding lt
+not-below-nan nan = refl
+not-below-nan (inf s) = refl
+not-below-nan (fin s m e) = refl
+
+pub not-at-most-nan : (x : Float) → le x nan ≡ false
+unfolding le lt eq
+not-at-most-nan nan = refl
+not-at-most-nan (inf s) = refl
+not-at-most-nan (fin s m e) = refl

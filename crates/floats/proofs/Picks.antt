@@ -3,7 +3,7 @@ use mathlib.Core.Path.{_≡_, refl, ap}
 use mathlib.Core.Bool.{Bool, true, false, cond}
 use lib.Ieee.{Float, nan, inf, fin, isNan, lt, ne}
 use Rattle.floats.specs.Pick.{leastOf, largestOf}
-use Rattle.floats.proofs.Nans.{is-nan}
+use Rattle.floats.proofs.Nans.{is-nan, not-below-nan}
 
 -- ---- the earlier operand is a NaN
 pub least-at-nan : (a b : Float) → ne a a ≡ true → b ≡ leastOf a b
@@ -19,12 +19,6 @@ not-below : (a : Float) → lt nan a ≡ false
 unfolding lt
 not-below a = refl
 
-not-above : (a : Float) → lt a nan ≡ false
-unfolding lt
-not-above nan = refl
-not-above (inf s) = refl
-not-above (fin s m e) = refl
-
 -- a choice by a test t that is false where b is a NaN
 by-test : (a b : Float) (t : Bool) → (b ≡ nan → t ≡ false) → cond t b a ≡ cond (isNan b) a (cond t b a)
 unfolding isNan
@@ -38,7 +32,7 @@ least-by-test a b t n e = rw (n, ← e) (by-test a b (lt b a) (λ f. rw f (not-b
 
 pub largest-by-test : (a b : Float) (t : Bool) → isNan a ≡ false → lt a b ≡ t → cond t b a ≡ largestOf a b
 unfolding largestOf
-largest-by-test a b t n e = rw (n, ← e) (by-test a b (lt a b) (λ f. rw f (not-above a)))
+largest-by-test a b t n e = rw (n, ← e) (by-test a b (lt a b) (λ f. rw f (not-below-nan a)))
 
 -- what is answered is a number too
 chosen : (a b : Float) (t : Bool) → isNan a ≡ false → isNan (cond (isNan b) a (cond t b a)) ≡ false

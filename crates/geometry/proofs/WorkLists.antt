@@ -1,17 +1,15 @@
 -- A clipping, or a measure of what it leaves, that is carried out.
-use mathlib.Core.Path.{_≡_, refl, ap}
+use mathlib.Core.Path.{_≡_}
 use mathlib.Core.List.{List}
 use Prim.Native.Nat.{ℕ}
 use lib.Ieee.{Float}
 use lib.ListN.{length, replicate}
 use Rattle.floats.specs.F64.{zero64}
 use Rattle.work_lists.specs.declared.Left.{Left}
-use Rattle.work_lists.specs.declared.Sum.{Sum}
 use Rattle.work_lists.specs.WorkLists.{Outcome}
 use Rattle.work_lists.specs.Steps.{Settled}
 use Rattle.geometry.specs.declared.Clipped.{Clipped}
-use Rattle.geometry.specs.declared.Number.{Number}
-use Rattle.geometry.specs.Clipping.{clippedAnswer, numberOf, clippingOf, measureOf}
+use Rattle.geometry.specs.Clipping.{clippedAnswer, clippingOf, measureOf}
 use Rattle.geometry.proofs.Answers.{passed}
 
 module _ (o : Outcome) (first second : List Float) {why refusal : ℕ} (found : why ≡ refusal) where
@@ -20,8 +18,8 @@ module _ (o : Outcome) (first second : List Float) {why refusal : ℕ} (found : 
       → (r, first′, second′) ≡ clippingOf refusal o first second
   clip-passed z e s = passed found _ z (rw (e, s .answer, s .in-first, s .in-second))
 
-module _ (s : Sum) (first second : List Float) {why refusal : ℕ} (found : why ≡ refusal) where
-  pub measure-passed : {t : Sum} {r : Number} {first′ second′ : List Float} → why ≡ 0 → r ≡ numberOf t → t ≡ s
+module _ {A : Type 0} (a : A) (refuse : ℕ → A) (first second : List Float) {why refusal : ℕ} (found : why ≡ refusal) where
+  pub measure-passed : {r : A} {first′ second′ : List Float} → why ≡ 0 → r ≡ a
       → first′ ≡ replicate (length first) zero64 → second′ ≡ replicate (length second) zero64
-      → (r, first′, second′) ≡ measureOf refusal s first second
-  measure-passed z e t f g = passed found _ z (rw (e, t, f, g))
+      → (r, first′, second′) ≡ measureOf refusal a refuse first second
+  measure-passed z e f g = passed found _ z (rw (e, f, g))

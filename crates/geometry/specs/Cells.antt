@@ -12,11 +12,11 @@ use Rattle.cell.specs.Faces.{facesOf}
 use Rattle.cut.specs.Cut.{Cut, cutOf, cutByPlace}
 use Rattle.volume.specs.Volume.{volumeOf, geometricCentroidOf}
 use Rattle.inside.specs.Inside.{containsOf, phedContainsOf}
-use Rattle.planes.specs.Planes.{planeOf}
+use Rattle.planes.specs.Planes.{PlaneOrNoArea, noArea, hasPlane, planeOf, noAreaFaces}
 use Rattle.planes.specs.declared.Plane as planes
 use Rattle.outward.specs.Convexity.{computeConvexityOf}
 use Rattle.outward.specs.Outward.{outwardCorners}
-use Rattle.refusals.specs.Refusals.{cellRefusal, containsRefusal, phedRefusal, facesRefusal, trianglesRefusal}
+use Rattle.refusals.specs.Refusals.{cellRefusal, containsRefusal, phedRefusal, facesRefusal, noAreaRefusal, trianglesRefusal}
 use Rattle.geometry.specs.declared.Number.{Number}
 use Rattle.geometry.specs.declared.Truth.{Truth}
 use Rattle.geometry.specs.declared.CutCounts.{CutCounts}
@@ -107,15 +107,26 @@ faceNumbered corners ends k = getD (facesOf corners ends) k []
 abbrev pub planeShown : planes.Plane → Plane
 planeShown p = record { n = p .n; d = p .d }
 
--- a refusal has +0 four times in place of a plane
-abbrev pub refusedPlane : ℕ → FacePlane
-refusedPlane why = record { answer = PlaneAnswer.Refused why; plane = record { n = zero64 ∷ zero64 ∷ zero64 ∷ []; d = zero64 } }
+-- where there is no plane, +0 four times stand in its place
+abbrev pub withoutPlane : PlaneAnswer → FacePlane
+withoutPlane answer = record { answer = answer; plane = record { n = zero64 ∷ zero64 ∷ zero64 ∷ []; d = zero64 } }
 
--- plane_of_face: a unit normal and an offset
+-- what is told of a face: its plane, or that it has no area
+abbrev pub planeTold : PlaneOrNoArea → FacePlane
+planeTold noArea = withoutPlane PlaneAnswer.NoArea
+planeTold (hasPlane p) = record { answer = PlaneAnswer.Is; plane = planeShown p }
+
+-- plane_of_face: a unit normal and an offset, or no area
 unfoldable pub planeOfFaceAnswer : List Float → List ℕ → List ℕ → ℕ → FacePlane
 planeOfFaceAnswer coords corners ends k =
-    let plane = planeShown (planeOf (cornersOf (verticesOf coords) (faceNumbered corners ends k))) in
-    answered (facesRefusal coords corners ends (k ∷ [])) (record { answer = PlaneAnswer.Is; plane = plane }) refusedPlane
+    let told = planeTold (planeOf (cornersOf (verticesOf coords) (faceNumbered corners ends k))) in
+    answered (facesRefusal coords corners ends (k ∷ [])) told (λ why. withoutPlane (PlaneAnswer.Refused why))
+
+-- no_area_faces: the answer, and the list with 1 for each face of no area and 0 for every other at its front
+unfoldable pub noAreaFacesAnswer : List Float → List ℕ → List ℕ → List ℕ → Done × List ℕ
+noAreaFacesAnswer coords corners ends out =
+    let flags = noAreaFaces (verticesOf coords) (facesOf corners ends) in
+    answered (noAreaRefusal coords corners ends (length out)) (Done.Is, front flags out) (λ why. (Done.Refused why, out))
 
 -- how many triangles a cut has, and how many tests were made
 abbrev pub countsOf : Cut → CutCounts

@@ -15,9 +15,11 @@ use Rattle.work_lists.specs.declared.Sum as sum
 use Rattle.work_lists.specs.WorkLists.{Outcome, shorterOf, answerOf, listAfter}
 use Rattle.clip.specs.Clip.{clipFaceOf}
 use Rattle.planar.specs.Planar.{clipConvexOf, areaAnswer}
-use Rattle.overlap.specs.Overlap.{intersectionOf}
+use Rattle.overlap.specs.declared.SharedSum as overlap
+use Rattle.overlap.specs.Overlap.{overlappedOf}
 use Rattle.refusals.specs.Refusals.{clipRefusal, planarRefusal, overlapRefusal}
 use Rattle.geometry.specs.declared.Number.{Number}
+use Rattle.geometry.specs.declared.Overlapped.{Overlapped}
 use Rattle.geometry.specs.declared.Clipped.{Clipped}
 use Rattle.geometry.specs.Answers.{answered}
 use Rattle.geometry.specs.Cells.{faceNumbered}
@@ -28,6 +30,9 @@ Clipping = Clipped × List Float × List Float
 
 abbrev pub Measure : Type 0
 Measure = Number × List Float × List Float
+
+abbrev pub Overlapping : Type 0
+Overlapping = Overlapped × List Float × List Float
 
 -- what is left, as an entry answers it: no room is refusal 6
 abbrev pub clippedAnswer : left.Left → Clipped
@@ -40,6 +45,11 @@ abbrev pub numberOf : sum.Sum → Number
 numberOf (sum.Sum.Is x) = Number.Is x
 numberOf sum.Sum.NoRoom = Number.Refused 6
 
+-- the overlap of two cells, as an entry answers it: no room is refusal 6, and the number alone is told
+abbrev pub sharedAnswer : overlap.SharedSum → Overlapped
+sharedAnswer (overlap.SharedSum.Is o) = Overlapped.Is (record { volume = o .volume; arealess = o .arealess; arealess2 = o .arealess2 })
+sharedAnswer overlap.SharedSum.NoRoom = Overlapped.Refused 6
+
 -- a clipping of which this is left: it is shown in the work list where it ended, and every other number of both lists is +0
 abbrev pub clippingOf : ℕ → Outcome → List Float → List Float → Clipping
 clippingOf refusal o first second =
@@ -47,10 +57,9 @@ clippingOf refusal o first second =
     (λ why. (Clipped.Refused why, first, second))
 
 -- a measure of what is left: every number of both lists is then +0
-abbrev pub measureOf : ℕ → sum.Sum → List Float → List Float → Measure
-measureOf refusal s first second =
-    answered refusal (numberOf s, replicate (length first) zero64, replicate (length second) zero64)
-    (λ why. (Number.Refused why, first, second))
+abbrev pub measureOf : {A : Type 0} → ℕ → A → (ℕ → A) → List Float → List Float → A × List Float × List Float
+measureOf refusal a refuse first second =
+    answered refusal (a, replicate (length first) zero64, replicate (length second) zero64) (λ why. (refuse why, first, second))
 
 -- how many points of space, and of the plane, the shorter work list holds
 abbrev pub roomInSpace : List Float → List Float → ℕ
@@ -75,11 +84,12 @@ clipConvexAnswer subject clip first second =
 unfoldable pub overlapAreaAnswer : List Float → List Float → List Float → List Float → Measure
 overlapAreaAnswer subject clip first second =
     let area = areaAnswer (clipConvexOf (roomInPlane first second) (inPairs subject) (inPairs clip)) in
-    measureOf (planarRefusal subject clip first second) area first second
+    measureOf (planarRefusal subject clip first second) (numberOf area) Number.Refused first second
 
--- convex_intersection_volume: the volume that two convex cells share
-unfoldable pub overlapAnswer : List Float → List ℕ → List ℕ → List Float → List ℕ → List ℕ → List Float → List Float → Measure
+-- convex_intersection_volume: the volume that two convex cells share, and how many faces of each have no area
+unfoldable pub overlapAnswer : List Float → List ℕ → List ℕ → List Float → List ℕ → List ℕ → List Float → List Float → Overlapping
 overlapAnswer coords corners ends coords2 corners2 ends2 first second =
     let room = roomInSpace first second in
-    let volume = intersectionOf room (verticesOf coords) (facesOf corners ends) (verticesOf coords2) (facesOf corners2 ends2) in
-    measureOf (overlapRefusal coords corners ends coords2 corners2 ends2 first second) volume first second
+    let o = overlappedOf room (verticesOf coords) (facesOf corners ends) (verticesOf coords2) (facesOf corners2 ends2) in
+    let refusal = overlapRefusal coords corners ends coords2 corners2 ends2 first second in
+    measureOf refusal (sharedAnswer o) Overlapped.Refused first second

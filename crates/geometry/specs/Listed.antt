@@ -25,6 +25,7 @@ use Rattle.geometry.specs.declared.Convexity.{Convexity}
 use Rattle.geometry.specs.declared.Convexity.the-variants.{Convex, Concave, Unknown}
 use Rattle.geometry.specs.declared.PlaneAnswer.{PlaneAnswer}
 use Rattle.geometry.specs.declared.FacePlane.{FacePlane}
+use Rattle.geometry.specs.declared.Overlapped.{Overlapped}
 use Rattle.geometry.specs.declared.Clipped.{Clipped}
 use Rattle.geometry.specs.Answers.{front}
 use Rattle.geometry.specs.Cells.{trianglesAnswer, trianglePlacesAnswer}
@@ -112,13 +113,19 @@ abbrev pub ofDescribed : Described → Listed
 ofDescribed (Described.Is c) = values [] (c .vertices ∷ c .corners ∷ c .faces ∷ shapeNumber (c .convexity) ∷ [])
 ofDescribed (Described.Refused why) = refused why
 
--- the normal, then the offset
+-- the normal, then the offset, and the count 1; for no area the count 0 alone
 abbrev pub planeListed : PlaneAnswer → List Float → Float → Listed
-planeListed PlaneAnswer.Is n d = values (at n 0 ∷ at n 1 ∷ at n 2 ∷ d ∷ []) []
+planeListed PlaneAnswer.Is n d = values (at n 0 ∷ at n 1 ∷ at n 2 ∷ d ∷ []) (1 ∷ [])
+planeListed PlaneAnswer.NoArea n d = values [] (0 ∷ [])
 planeListed (PlaneAnswer.Refused why) n d = refused why
 
 abbrev pub ofFacePlane : FacePlane → Listed
 ofFacePlane f = planeListed (f .answer) (f .plane .n) (f .plane .d)
+
+-- the volume; and how many faces of the first cell and of the second have no area
+abbrev pub ofOverlapped : Overlapped → Listed
+ofOverlapped (Overlapped.Is o) = values (o .volume ∷ []) (o .arealess ∷ o .arealess2 ∷ [])
+ofOverlapped (Overlapped.Refused why) = refused why
 
 -- how many points are left, 0 for nothing, and 1 where they stand in the second work list
 abbrev pub ofClipped : Clipped → Listed
@@ -154,6 +161,12 @@ clippingTold c shown =
 -- a measure, told by one number in `out`: the code, that list, and both work lists
 abbrev pub measureTold : Number × List Float × List Float → List Float → ℕ × List Float × List Float × List Float
 measureTold m out = (written (ofNumber (m .0)) out [] .0, written (ofNumber (m .0)) out [] .1, m .1, m .2)
+
+-- an overlap, told by one number in `out` and two counts in `arealess`: the code, those lists, and both work lists
+abbrev pub overlapTold : Overlapped × List Float × List Float → List Float → List ℕ → ℕ × List Float × List ℕ × List Float × List Float
+overlapTold o out arealess =
+    let reply = written (ofOverlapped (o .0)) out arealess in
+    (reply .0, reply .1, reply .2, o .1, o .2)
 
 -- triangles in the list `out`, as `answer` gives them for that list, and the two counts in the list `count`: the code, and what then stands
 -- in both; where `count` is too short for two there is no room for a triangle either

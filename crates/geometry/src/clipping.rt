@@ -3,7 +3,7 @@
 ghost use mathlib.Core.Path.{_≡_};
 ghost use Rattle.places.specs.Lent.{old, new};
 ghost use Rattle.geometry.specs.Clipping.{clippedAnswer, numberOf, clipFaceAnswer, clipConvexAnswer, overlapAreaAnswer};
-ghost use Rattle.geometry.specs.Clipping.{overlapAnswer};
+ghost use Rattle.geometry.specs.Clipping.{sharedAnswer, overlapAnswer};
 
 // What is left as an entry answers it: the number of 'no room' is 6 (SCOPE 3).
 fn clipped(left: work_lists::Left) -> crate::Clipped
@@ -23,6 +23,20 @@ fn number(sum: work_lists::Sum) -> crate::Number
     match sum {
         work_lists::Sum::Is(x) => crate::Number::Is(x),
         work_lists::Sum::NoRoom => crate::Number::Refused(6),
+    }
+}
+
+// The overlap of two cells, likewise.
+fn shared(o: overlap::SharedSum) -> crate::Overlapped
+    ensures { λ r. ⌜ r ≡ sharedAnswer o ⌝ }
+{
+    match o {
+        overlap::SharedSum::Is(x) => crate::Overlapped::Is(crate::Shared {
+            volume: x.volume,
+            arealess: x.arealess,
+            arealess2: x.arealess2,
+        }),
+        overlap::SharedSum::NoRoom => crate::Overlapped::Refused(6),
     }
 }
 
@@ -85,8 +99,9 @@ pub fn convex_intersection_area(
     number(area)
 }
 
-// The volume of the overlap of two convex cells; both work lists are then +0.
-// Ruled out: a shared face counted for an overlap; the faces of the first cell only.
+// The volume of the overlap of two convex cells, and how many faces of each have no area, even where their boxes miss each other; both
+// work lists are then +0.
+// Ruled out: a shared face counted for an overlap; the faces of the first cell only; faces counted only where the boxes meet.
 pub fn convex_intersection_volume(
     coords: &[f64],
     corners: &[u32],
@@ -96,7 +111,7 @@ pub fn convex_intersection_volume(
     ends2: &[u32],
     first: &mut [f64],
     second: &mut [f64],
-) -> crate::Number
+) -> crate::Overlapped
     ensures { λ r. ⌜ (r, new first, new second) ≡ overlapAnswer (old coords) (old corners) (old ends)
         (old coords2) (old corners2) (old ends2) (old first) (old second) ⌝ }
 {
@@ -111,9 +126,9 @@ pub fn convex_intersection_volume(
         second,
     );
     if why != 0 {
-        return crate::Number::Refused(why);
+        return crate::Overlapped::Refused(why);
     }
-    let sum = overlap::convex_intersection_volume(
+    let o = overlap::convex_intersection_volume(
         coords,
         corners,
         ends,
@@ -123,5 +138,5 @@ pub fn convex_intersection_volume(
         first,
         second,
     );
-    number(sum)
+    shared(o)
 }

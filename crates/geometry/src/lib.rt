@@ -12,7 +12,8 @@ ghost use Rattle.places.specs.Lent.{old, new};
 ghost use Rattle.geometry.specs.Answers.{named3};
 ghost use Rattle.geometry.specs.Cells.{volumeAnswer, centroidAnswer, geometricCentroidAnswer, boundsAnswer, scaleAnswer};
 ghost use Rattle.geometry.specs.Cells.{closedAnswer, containsAnswer, pointInPhedAnswer, cellOf, describeAnswer, isConvexAnswer};
-ghost use Rattle.geometry.specs.Cells.{intoCcwAnswer, planeOfFaceAnswer, trianglesAnswer, trianglePlacesAnswer};
+ghost use Rattle.geometry.specs.Cells.{intoCcwAnswer, withoutPlane, planeOfFaceAnswer, noAreaFacesAnswer, trianglesAnswer};
+ghost use Rattle.geometry.specs.Cells.{trianglePlacesAnswer};
 ghost use Rattle.geometry.specs.CheckCut.{checkCutAnswer, YesForCuts};
 ghost use Rattle.geometry.specs.Survey.{surveyAnswer};
 ghost use Rattle.geometry.specs.TurnFaces.{canTurnAnswer, TurnFacesGives};
@@ -108,9 +109,10 @@ pub struct Plane {
     pub d: f64,
 }
 
-// A plane is there, or the refusal. An enum holds no array, so the plane stands beside this.
+// A plane is there, or the face has no area, or the refusal. An enum holds no array, so the plane stands beside this.
 pub enum PlaneAnswer {
     Is,
+    NoArea,
     Refused(u8),
 }
 
@@ -118,6 +120,19 @@ pub enum PlaneAnswer {
 pub struct FacePlane {
     pub answer: PlaneAnswer,
     pub plane: Plane,
+}
+
+// The volume that two cells share, and how many faces of the first and of the second have no area.
+pub struct Shared {
+    pub volume: f64,
+    pub arealess: usize,
+    pub arealess2: usize,
+}
+
+// The overlap of two cells, or the refusal.
+pub enum Overlapped {
+    Is(Shared),
+    Refused(u8),
 }
 
 // Nothing is left; or an outline of so many points, in the first work list (false) or in the second (true); or the refusal.
@@ -341,27 +356,52 @@ pub fn can_turn(coords: &[f64], corners: &[u32], ends: &[u32]) -> Done
     Done::Is
 }
 
-// The plane of the face with a number: a unit normal and an offset. Where the norm is 0 the plane has parts that are NaN or infinite.
-// Ruled out: the plane of the face before it; a plane beside a refusal that is not +0.
+// No plane, and why.
+fn without_plane(answer: PlaneAnswer) -> FacePlane
+    ensures { λ r. ⌜ r ≡ withoutPlane answer ⌝ }
+{
+    let n = [0.0, 0.0, 0.0];
+    FacePlane {
+        answer,
+        plane: Plane { n, d: 0.0 },
+    }
+}
+
+// The plane of the face with a number: a unit normal and an offset; or that the face has no area: its three Newell sums are all 0.
+// Ruled out: the plane of the face before it; no area where only the norm underflows; a plane beside a refusal that is not +0.
 pub fn plane_of_face(coords: &[f64], corners: &[u32], ends: &[u32], face: u32) -> FacePlane
     ensures { λ r. ⌜ r ≡ planeOfFaceAnswer (old coords) (old corners) (old ends) face ⌝ }
 {
     let asked = [face];
     let why = refusals::faces_refusal(coords, corners, ends, &asked);
     if why != 0 {
-        let n = [0.0, 0.0, 0.0];
-        return FacePlane {
-            answer: PlaneAnswer::Refused(why),
-            plane: Plane { n, d: 0.0 },
-        };
+        return without_plane(PlaneAnswer::Refused(why));
     }
     let part = cell::face_by_number(corners, ends, face as usize);
-    let p = planes::plane_of_face(coords, part);
+    let found = planes::plane_of_face(coords, part);
+    if !found.area {
+        return without_plane(PlaneAnswer::NoArea);
+    }
+    let p = found.plane;
     let n = p.n;
     FacePlane {
         answer: PlaneAnswer::Is,
         plane: Plane { n, d: p.d },
     }
+}
+
+// Which faces have no area: for each face 1 or 0, at the front of the list.
+// Ruled out: 1 for a face with area; a refusal that writes; a place behind the faces that is changed.
+pub fn no_area_faces(coords: &[f64], corners: &[u32], ends: &[u32], out: &mut [usize]) -> Done
+    ensures { λ r. ⌜ (r, new out) ≡ noAreaFacesAnswer (old coords) (old corners) (old ends) (old out) ⌝ }
+{
+    let why = refusals::no_area_refusal(coords, corners, ends, out.len());
+    if why != 0 {
+        return Done::Refused(why);
+    }
+    let n = ends.len();
+    planes::no_area_faces(coords, corners, ends, &mut out[0..n]);
+    Done::Is
 }
 
 // The triangles of the face with a number, at the front of out; room is asked for before the cut, even if it stops short. The answer says

@@ -2,7 +2,7 @@
 -- and takes one root at the end.
 use mathlib.Core.Path.{_≡_, refl, sym, ap, _∙_}
 use mathlib.Core.List.{List, [], _∷_, _++_}
-use Prim.Native.Nat.{_+_}
+use Prim.Native.Nat.{ℕ, _+_}
 use lib.ListN.{length, length-append}
 use lib.IntN.{pos}
 use lib.Dec.{T}
@@ -41,10 +41,20 @@ farther-root c (p ∷ ps) m f u =
 
 module _ (vs ws : List Point) where
   -- the centroid: the second list's sum goes on from the first's
-  pub centroid-both : centroidOf 3 (vs ++ ws)
+  centroid-both : centroidOf 3 (vs ++ ws)
       ≡ overOf 3 (foldList (plusOf 3) ws (foldList (plusOf 3) vs (pointBy 3 (λ k. zero64)))) (ofInt binary64 (pos (length vs + length ws)))
   unfolding centroidOf
   centroid-both = rw (fold-append (plusOf 3) vs ws, length-append vs ws)
+
+  -- a mean of n points, s their sum: of the first list's, and of both lists'
+  pub first-mean : {s r : Point} {n : ℕ} → s ≡ foldList (plusOf 3) vs (pointBy 3 (λ k. zero64)) → n ≡ length vs
+      → r ≡ overOf 3 s (ofInt binary64 (pos n)) → r ≡ centroidOf 3 vs
+  unfolding centroidOf
+  first-mean e f g = rw (← e, ← f) g
+
+  pub both-mean : {s r : Point} {n : ℕ} → s ≡ foldList (plusOf 3) ws (foldList (plusOf 3) vs (pointBy 3 (λ k. zero64)))
+      → n ≡ length vs + length ws → r ≡ overOf 3 s (ofInt binary64 (pos n)) → r ≡ centroidOf 3 (vs ++ ws)
+  both-mean e f g = rw (centroid-both, ← e, ← f) g
 
   -- the larger distances, one list after the other, are the root of the larger squares
   pub radial-both : radialOf (vs ++ ws)

@@ -2,6 +2,10 @@ pub mod Fans
 pub mod Sifting
 pub mod Both
 pub mod Patches
+pub mod Own
 pub mod Sums
 pub mod Overlaps
+pub mod Former
+pub mod Sparse
+pub mod SameBits
 pub mod Computed

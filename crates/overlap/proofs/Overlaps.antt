@@ -1,23 +1,25 @@
 -- The overlap of two cells from its parts: one list that has the planes of both, cut into those of each, and the sum over the faces of
 -- the first cell, from which the sum over those of the second goes on.
-use mathlib.Core.Path.{_≡_, sym, _∙_}
+use mathlib.Core.Path.{_≡_, ap, _∙_}
 use mathlib.Core.Bool.{true, false}
 use mathlib.Core.List.{List, [], _∷_, _++_, append-nil}
-use Prim.Native.Nat.{ℕ, _+_, _-_, _≤_}
-use native.Mathlib.Nat.{sub-zero}
+use Prim.Native.Nat.{ℕ, zero, suc, _+_, _-_, _≤_}
+use native.Mathlib.Nat.{add-zero, sub-zero}
 use native.Mathlib.Omega.{arith}
 use lib.ListN.{length, take, drop, replicate, length-take, length-drop, length-append, length-replicate}
 use lib.Seq.{take-all, take-at, drop-at}
-use borrow.Rule.Slice.PartMut.{postOf, putMid}
+use borrow.Rule.Slice.PartMut.{putMid}
 use lib.Ieee.{Float}
 use Rattle.places.specs.Limits.{mostCoordinates}
-use Rattle.places.proofs.Lists.{first-of}
 use Rattle.places.proofs.Stored.{length-threes}
+use Rattle.cell.specs.Faces.{facesOf}
 use Rattle.cell.specs.Steps.{Sound}
+use Rattle.cell.proofs.Faces.{length-faces}
 use Rattle.floats.specs.F64.{zero64}
 use Rattle.flat.specs.Points.{Point}
 use Rattle.planes.specs.declared.Plane.{Plane}
-use Rattle.planes.specs.Planes.{planesOf, inFours}
+use Rattle.planes.specs.Planes.{planesOf, noAreaCount, inFours}
+use Rattle.planes.proofs.Faces.{planes-count}
 use Rattle.work_lists.specs.declared.Sum.{Sum}
 use Rattle.overlap.specs.declared.Measures.{Measures}
 use Rattle.overlap.specs.Tolerances.{measuresOf}
@@ -95,41 +97,48 @@ module _ (first second : List Float) (vs : List Point) (faces : List (List ℕ))
         ← h,
       ) e
 
--- ---- how that list is laid: a comes into the first n places of a list l, and then b into those from n on
-abbrev laidFront : ℕ → List Float → List Float → List Float
-laidFront n l a = a ++ postOf 0 (n - 0) l
+-- ---- how that list is laid: the first n numbers of a list l are the first cell's planes, and b, whose first k numbers are the second's,
+-- comes into the places from n on
+take-past : (a b : List Float) (n k : ℕ) → length a ≡ n → take (k + n) (a ++ b) ≡ a ++ take k b
+take-past [] b zero k h = rw (add-zero k)
+take-past [] b (suc n) k h = absurd (omega arith)
+take-past (x ∷ a) b zero k h = absurd (omega arith)
+take-past (x ∷ a) b (suc n) k h =
+    let e : k + suc n ≡ suc (k + n) = omega arith in
+    rw e (ap (λ (l : List Float). x ∷ l) (take-past a b n k (omega arith)))
 
-abbrev laidBack : ℕ → List Float → List Float
-laidBack n l = take (length l - n) (drop n l)
-
-module _ (n k : ℕ) (l a : List Float) (size : length l ≡ n + k) (same : length a ≡ length (take (n - 0) l)) where
-  front-long : length a ≡ n
-  front-long = same ∙ simp length-take (omega arith)
-
-  pub back-long : length (laidBack n (laidFront n l a)) ≡ k
-  back-long = simp (length-take, length-drop, length-append) (omega (arith, front-long))
-
-  -- nothing is left behind b, so the list is a and then b
-  joined : {firsts seconds : List Plane} (b rest : List Float) → length b ≡ k → length rest ≡ 0 → inFours a ≡ firsts → inFours b ≡ seconds
-      → Joint n k firsts seconds (take n (laidFront n l a) ++ (b ++ rest))
-  joined b [] e z f g =
-      rw (take-at a (postOf 0 (n - 0) l) n front-long, append-nil b)
+module _ (n k : ℕ) (l : List Float) (room : n ≤ length l) where
+  -- nothing is left behind b
+  joined : {firsts seconds : List Plane} (b rest : List Float) → k ≤ length b → length rest ≡ 0
+      → inFours (take n l) ≡ firsts → inFours (take k b) ≡ seconds
+      → Joint n k firsts seconds (take (k + n) (take n l ++ (b ++ rest)))
+  joined b [] h z f g =
+      let front : length (take n l) ≡ n = simp length-take (omega arith) in
+      rw (append-nil b, take-past (take n l) b n k front)
       (record {
-        size = rw length-append (omega (arith, front-long));
-        of-first = rw (take-at a b n front-long) f;
-        of-second = rw (drop-at a b n front-long) g;
+        size = simp (length-append, length-take) (omega arith);
+        of-first = rw (take-at (take n l) (take k b) n front) f;
+        of-second = rw (drop-at (take n l) (take k b) n front) g;
       })
-  joined b (x ∷ rest) e z f g = absurd (omega arith)
+  joined b (x ∷ rest) h z f g = absurd (omega arith)
 
-  pub joint-laid : {firsts seconds : List Plane} (b : List Float) → length b ≡ length (laidBack n (laidFront n l a))
-      → inFours a ≡ firsts → inFours b ≡ seconds
-      → Joint n k firsts seconds (putMid n (length (laidFront n l a) - n) (laidFront n l a) b)
-  joint-laid b e f g = joined b _ (e ∙ back-long) (simp length-drop (omega arith)) f g
+  pub joint-laid : {firsts seconds : List Plane} (b : List Float) (all : ℕ) → all ≡ k + n → k ≤ length b
+      → inFours (take n l) ≡ firsts → inFours (take k b) ≡ seconds → Joint n k firsts seconds (take all (putMid n (length l - n) l b))
+  joint-laid b all e h f g = rw e (joined b _ h (simp length-drop (omega arith)) f g)
+
+-- the front of a list, as the code cuts it off
+pub joint-cut : {n k : ℕ} {firsts seconds : List Plane} (all : ℕ) (l : List Float) → Joint n k firsts seconds (take all l)
+    → Joint n k firsts seconds (take (all - 0) l)
+joint-cut all l j = rw (sub-zero all) j
+
+-- ---- how many faces have no area: all but those that have a plane
+pub with-others : (vs : List Point) (c es : List ℕ) {n : ℕ} → n ≡ length (planesOf vs (facesOf c es))
+    → n + noAreaCount vs (facesOf c es) ≡ length es
+with-others vs c es e = rw e (planes-count vs (facesOf c es) ∙ length-faces c es)
+
+pub left-over : (n : ℕ) {k all : ℕ} → n + k ≡ all → all - n ≡ k
+left-over n e = omega arith
 
 -- a cell that is sound has few coordinates
 pub few-coordinates : {coords : List Float} {corners ends : List ℕ} → Sound coords corners ends → length coords ≤ mostCoordinates
 few-coordinates {coords} sound = omega (arith, length-threes coords, sound .threes, sound .few)
-
--- the first n numbers of an array
-pub front-length : (n k : ℕ) → n ≤ k → length (take (n - 0) (replicate k zero64)) ≡ n
-front-length n k h = rw sub-zero (sym (first-of n k zero64 h))

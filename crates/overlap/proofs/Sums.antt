@@ -1,25 +1,22 @@
--- The loop of `add_faces`: the plane of each face stands beside it in a list, and what is left of the faces is taken into the sum, one
--- after the other.
-use mathlib.Core.Path.{_≡_, refl, sym, ap, _∙_}
+-- The loop of `add_faces`: the planes of the faces that have area stand in a list, in the order of the faces, and what is left of the faces
+-- is taken into the sum, one after the other.
+use mathlib.Core.Path.{_≡_, refl, sym, _∙_}
 use mathlib.Core.Bool.{Bool, true, false, cond}
 use mathlib.Core.List.{List, [], _∷_, _++_, map}
-use Prim.Native.Nat.{ℕ, _+_, _*_, _<_, _≤_, zero-le}
+use Prim.Native.Nat.{ℕ, _+_, _*_, _-_, _<_, _≤_, zero-le}
 use native.Mathlib.Omega.{arith}
 use lib.Dec.{T}
 use lib.ListN.{length, getD, take, drop, length-take, length-drop}
 use lib.Seq.{slice}
 use lib.Ieee.{Float}
-use Rattle.places.proofs.Loops.{drop-more}
 use Rattle.places.proofs.Lists.{each-slice}
 use Rattle.places.proofs.Stored.{threes-take}
 use Rattle.floats.specs.F64.{_+f_}
-use Rattle.flat.specs.Points.{Point, verticesOf, cornersOf}
+use Rattle.flat.specs.Points.{Point, verticesOf}
 use Rattle.cell.specs.Faces.{facesFrom, facesOf, rises}
 use Rattle.cell.specs.Steps.{Sound}
 use Rattle.cell.proofs.Faces.{Step, faces-more, faces-none, rises-more}
 use Rattle.planes.specs.declared.Plane.{Plane}
-use Rattle.planes.specs.Steps.{noPlane}
-use Rattle.planes.proofs.Faces.{facePlane}
 use Rattle.work_lists.specs.declared.Left.the-variants.{Nothing, Outline, NoRoom}
 use Rattle.work_lists.specs.declared.Sum.{Sum}
 use Rattle.work_lists.specs.WorkLists.{Outcome, nothing, noRoom, outline}
@@ -27,12 +24,8 @@ use Rattle.work_lists.specs.Steps.{Ended}
 use Rattle.work_lists.proofs.Endings.{room-lacks}
 use Rattle.overlap.specs.declared.Measures.{Measures}
 use Rattle.overlap.specs.Overlap.{firstPatches, secondPatches, contributionOf, addedTo}
-use Rattle.overlap.specs.Steps.{patchOf, patchesOf, roomOf, Ready}
+use Rattle.overlap.specs.Steps.{facePatch, patchesOf, roomOf, Ready}
 use Rattle.overlap.proofs.Patches.{same-room}
-
--- what is left of a face that is given by its numbers
-abbrev pub facePatch : Bool → ℕ → Measures → List Point → List Plane → List ℕ → Outcome
-facePatch other room m vs planes face = patchOf other room m planes (cornersOf vs face)
 
 pub patches-are : (other : Bool) (room : ℕ) (m : Measures) (vs : List Point) (planes : List Plane) (faces : List (List ℕ))
     → patchesOf other room m vs faces planes ≡ map (facePatch other room m vs planes) faces
@@ -58,50 +51,18 @@ module _ {kept₀ first₀ second₀ kept first second : List Float} (same : Sam
   pub room-kept : roomOf first second ≡ roomOf first₀ second₀
   room-kept = same-room first second first₀ second₀ (same .of-first) (same .of-second)
 
--- ---- a list that has what g gives of each face, one beside the other: from face k and the previous end p on
-pub record Beside {A : Type 0} (g : List ℕ → A) (c es : List ℕ) (l : List A) (p k : ℕ) : Type 0 where
-  pub so : drop k l ≡ map g (facesFrom p c (drop k es))
-
-module _ {A : Type 0} {g : List ℕ → A} {c es : List ℕ} {l : List A} where
-  pub beside-start : l ≡ map g (facesOf c es) → Beside g c es l 0 0
-  unfolding facesOf
-  beside-start e = record { so = e }
-
-  module _ {p k : ℕ} (b : Beside g c es l p k) (h : k < length es) where
-    pub beside-room : k < length l
-    beside-room =
-        let end = getD es k 0 in
-        let q : drop k l ≡ map g (slice p end c ∷ facesFrom end c (drop (k + 1) es)) = rw (faces-more p c es k h) at (b .so) in
-        omega (arith, length-drop k l, ap length q)
-
-    both : {e : ℕ} (d : A) → e ≡ getD es k 0
-        → getD l k d ∷ drop (k + 1) l ≡ g (slice p e c) ∷ map g (facesFrom e c (drop (k + 1) es))
-    both {e} d q = rw (← drop-more l k d beside-room, q) (b .so ∙ rw (faces-more p c es k h))
-
-    pub beside-at : {e : ℕ} (d : A) → e ≡ getD es k 0 → getD l k d ≡ g (slice p e c)
-    beside-at {e} d q =
-        let r : getD l k d ∷ drop (k + 1) l ≡ g (slice p e c) ∷ map g (facesFrom e c (drop (k + 1) es)) = both d q in
-        cc
-
-    pub beside-next : {e : ℕ} (d : A) → e ≡ getD es k 0 → Beside g c es l e (k + 1)
-    beside-next {e} d q =
-        let r : getD l k d ∷ drop (k + 1) l ≡ g (slice p e c) ∷ map g (facesFrom e c (drop (k + 1) es)) = both d q in
-        record { so = cc }
-
 -- the face k is ready to be clipped
-pub ready-at : {coords planes first second : List Float} {c es face : List ℕ} {own : List Plane} {plane : Plane} {p k e : ℕ}
-    → Sound coords c es → Beside (facePlane (verticesOf coords)) c es own p k → k < length es → e ≡ getD es k 0
-    → face ≡ slice p e c → plane ≡ getD own k noPlane
-    → length planes ≤ 1024 → length first ≤ 3072 → length second ≤ 3072 → Ready (verticesOf coords) face plane planes first second
-ready-at {coords} {c = c} {p = p} {e = e} sound b h q f w few s t =
-    record {
-      inside = rw f (each-slice p e c (sound .inside));
-      few-corners = rw f (simp (length-drop, length-take) (omega (arith, sound .few-corners)));
-      own = rw f (w ∙ beside-at b h noPlane q);
+pub ready-at : {coords planes first second : List Float} {c es face : List ℕ} (p e : ℕ) → Sound coords c es → face ≡ slice p e c
+    → length planes ≤ 1024 → length first ≤ 3072 → length second ≤ 3072 → Ready (verticesOf coords) face planes first second
+ready-at {c = c} p e sound f few s t =
+    rw f
+    (record {
+      inside = each-slice p e c (sound .inside);
+      few-corners = simp (length-drop, length-take) (omega (arith, sound .few-corners));
       few-planes = few;
       short-first = s;
       short-second = t;
-    }
+    })
 
 -- ---- one face taken into the sum v, as its answer says
 pub took-nothing : {o : Outcome} {a b : List Point} (ref : Point) (v : Float) → Ended o Nothing a b → Sum.Is v ≡ addedTo ref v (o ∷ [])
@@ -121,6 +82,13 @@ took-outline {o = outline t (p ∷ ps)} {n} {s} ref v q =
     let size : n ≡ length (p ∷ ps) = cc (q .answer) in
     let side : s ≡ t = cc (q .answer) in
     rw (size, side, q .stands)
+
+-- the same for a face that is taken in with a sum, measures, room and numbers that are those of the loop
+pub face-taken : {r : Sum} {other other′ : Bool} {m m′ : Measures} {v v′ : Float} {room room′ : ℕ} {face face′ : List ℕ}
+    (vs : List Point) (planes : List Plane) → other′ ≡ other → m′ ≡ m → v′ ≡ v → room′ ≡ room → face′ ≡ face
+    → r ≡ addedTo (m′ .reference) v′ (facePatch other′ room′ m′ vs planes face′ ∷ [])
+    → r ≡ addedTo (m .reference) v (facePatch other room m vs planes face ∷ [])
+face-taken vs planes a b c d e q = rw (← a, ← b, ← c, ← d, ← e) q
 
 -- the points of the stretch that shows an outline
 shown-points : (n : ℕ) (s : Bool) (a b : List Float)

@@ -10,11 +10,12 @@ use Rattle.floats.specs.Pick.{magnitudeOf}
 use Rattle.flat.specs.Points.{Point, minusOf, cornersOf, boundsOf}
 use Rattle.volume.specs.Volume.{tripleOf}
 use Rattle.planes.specs.declared.Plane.{Plane}
-use Rattle.planes.specs.Planes.{planeOf, planesOf, sameSide, coplanarOpposite}
+use Rattle.planes.specs.Planes.{PlaneOrNoArea, noArea, hasPlane, planeOf, planesOf, noAreaCount, sameSide, coplanarOpposite}
 use Rattle.work_lists.specs.WorkLists.{Outcome, nothing, noRoom, outline}
 use Rattle.clip.specs.Clip.{clipFaceOf}
-use Rattle.overlap.specs.declared.Measures.{Measures}
 use Rattle.work_lists.specs.declared.Sum.{Sum}
+use Rattle.overlap.specs.declared.Measures.{Measures}
+use Rattle.overlap.specs.declared.SharedSum.{SharedSum}
 use Rattle.overlap.specs.Tolerances.{boxesMiss, measuresOf}
 
 -- ---- polygon_volume_contribution
@@ -50,28 +51,33 @@ otherPlanes plane tol (p ∷ ps) =
     let rest = otherPlanes plane tol ps in
     cond (sameSide plane p tol) rest (p ∷ rest)
 
--- what is left of a face of the first cell, its corners ps: nothing where a plane of the second skips it; else it is clipped by the
--- planes of the second that are not its own
-unfoldable pub firstPatch : ℕ → Measures → List Plane → List Point → Outcome
-firstPatch room m planes ps =
-    let plane = planeOf ps in
-    let left = clipFaceOf room (m .eps) (otherPlanes plane (m .coplanar) planes) ps in
-    cond (anyOf (firstSkip plane (m .coplanar)) planes) nothing left
+-- what is left of a face of the first cell, its corners ps: one of no area is clipped by all planes of the second; of any other nothing is
+-- left where one of them skips it, and else it is clipped by those that are not its own
+unfoldable pub firstPatch : ℕ → Measures → List Plane → List Point → PlaneOrNoArea → Outcome
+firstPatch room m planes ps noArea = clipFaceOf room (m .eps) planes ps
+firstPatch room m planes ps (hasPlane p) =
+    let left = clipFaceOf room (m .eps) (otherPlanes p (m .coplanar) planes) ps in
+    cond (anyOf (firstSkip p (m .coplanar)) planes) nothing left
 
--- what is left of a face of the second cell: nothing where a plane of the first skips it; else it is clipped by all planes of the first
-unfoldable pub secondPatch : ℕ → Measures → List Plane → List Point → Outcome
-secondPatch room m planes ps =
-    let plane = planeOf ps in
+-- what is left of a face of the second cell: it is clipped by all planes of the first, save that nothing is left where it has a plane and
+-- one of them skips it
+unfoldable pub secondPatch : ℕ → Measures → List Plane → List Point → PlaneOrNoArea → Outcome
+secondPatch room m planes ps noArea = clipFaceOf room (m .eps) planes ps
+secondPatch room m planes ps (hasPlane p) =
     let left = clipFaceOf room (m .eps) planes ps in
-    cond (anyOf (secondSkip plane (m .coplanar)) planes) nothing left
+    cond (anyOf (secondSkip p (m .coplanar)) planes) nothing left
+
+-- what is left of a face that is given by its numbers, by its corners and its plane or no area
+abbrev pub ofFace : (List Point → PlaneOrNoArea → Outcome) → List Point → List ℕ → Outcome
+ofFace patch vs face = let ps = cornersOf vs face in patch ps (planeOf ps)
 
 -- what is left of the first cell's faces, in their order
 unfoldable pub firstPatches : ℕ → Measures → List Point → List (List ℕ) → List Plane → List Outcome
-firstPatches room m vs faces planes = map (λ face. firstPatch room m planes (cornersOf vs face)) faces
+firstPatches room m vs faces planes = map (ofFace (firstPatch room m planes) vs) faces
 
 -- what is left of the second cell's faces, in their order
 unfoldable pub secondPatches : ℕ → Measures → List Point → List (List ℕ) → List Plane → List Outcome
-secondPatches room m ws faces planes = map (λ face. secondPatch room m planes (cornersOf ws face)) faces
+secondPatches room m ws faces planes = map (ofFace (secondPatch room m planes) ws) faces
 
 -- ---- their sum
 -- the contributions added in order to the sum v; where a face had no room there is no sum.
@@ -97,8 +103,19 @@ overlapOf room vs faces ws otherFaces =
     let ofSecond = secondPatches room m ws otherFaces (planesOf vs faces) in
     magnitudeOfSum (addedTo (m .reference) zero64 (ofFirst ++ ofSecond))
 
--- convex_intersection_volume: 0 where the boxes miss each other
+-- the volume that two cells share: 0 where the boxes miss each other
 unfoldable pub intersectionOf : ℕ → List Point → List (List ℕ) → List Point → List (List ℕ) → Sum
 intersectionOf room vs faces ws otherFaces =
     let overlap = overlapOf room vs faces ws otherFaces in
     cond (boxesMiss (boundsOf 3 vs) (boundsOf 3 ws)) (Sum.Is zero64) overlap
+
+-- ---- and the faces of no area
+-- a sum with how many faces of the first cell and of the second have no area; where there is no room there is nothing else
+abbrev pub counted : Sum → ℕ → ℕ → SharedSum
+counted (Sum.Is v) n k = SharedSum.Is (record { volume = v; arealess = n; arealess2 = k })
+counted Sum.NoRoom n k = SharedSum.NoRoom
+
+-- convex_intersection_volume: the volume, and how many faces of each cell have no area, counted over all faces even where the boxes miss
+unfoldable pub overlappedOf : ℕ → List Point → List (List ℕ) → List Point → List (List ℕ) → SharedSum
+overlappedOf room vs faces ws otherFaces =
+    counted (intersectionOf room vs faces ws otherFaces) (noAreaCount vs faces) (noAreaCount ws otherFaces)

@@ -2,13 +2,13 @@
 use crate::Measures;
 ghost use mathlib.Core.Path.{_≡_};
 ghost use mathlib.Core.Bool.{_||_};
-ghost use mathlib.Core.List.{_++_};
 ghost use Prim.Native.Nat.{_≤_};
 ghost use lib.ListN.{length};
-ghost use lib.Ieee.{lt};
+ghost use lib.IntN.{pos};
+ghost use lib.Ieee.{binary64, ofInt, lt};
 ghost use Rattle.places.specs.Limits.{mostCoordinates};
 ghost use Rattle.places.specs.Loops.{foldList};
-ghost use Rattle.flat.specs.Points.{verticesOf, plusOf, centroidOf};
+ghost use Rattle.flat.specs.Points.{verticesOf, plusOf, overOf};
 ghost use Rattle.overlap.specs.Tolerances.{boxesMiss, measuresOf};
 ghost use Rattle.overlap.specs.Steps.{fartherSquare};
 
@@ -55,13 +55,11 @@ fn add_points(coords: &[f64], s: [f64; 3]) -> [f64; 3]
     t
 }
 
-// The vertex centroid of two cells together.
-fn centroid_of_both(a: &[f64], b: &[f64]) -> [f64; 3]
-    requires { ⌜ (length (now a) ≤ mostCoordinates) × (length (now b) ≤ mostCoordinates) ⌝ }
-    ensures { λ r. ⌜ r ≡ centroidOf 3 (verticesOf (now (a .entry)) ++ verticesOf (now (b .entry))) ⌝ }
+// The sum of n points over their number.
+fn mean(s: [f64; 3], n: usize) -> [f64; 3]
+    requires { ⌜ n ≤ 512 ⌝ }
+    ensures { λ r. ⌜ r ≡ overOf 3 s (ofInt binary64 (pos n)) ⌝ }
 {
-    let s = add_points(b, add_points(a, [0.0, 0.0, 0.0]));
-    let n = a.len() / 3 + b.len() / 3;
     flat::over3(s, flat::space::count(n as u16))
 }
 
@@ -80,16 +78,19 @@ fn farthest(coords: &[f64], c: [f64; 3], m: f64) -> f64
     far
 }
 
-// The tolerances of an overlap and its reference point. The root grows with the number, so the largest distance is the root of
-// the largest square. The constant is 2^-46, 64 times the distance from 1 to the next f64.
+// The tolerances of an overlap and its reference point. The first cell's points are added once, for their own centroid and for that of
+// both cells. The root grows with the number, so the largest distance is the root of the largest square. The constant is 2^-46, 64 times
+// the distance from 1 to the next f64.
 // Ruled out: a radial length of the first cell's vertices alone; the centroid of both cells for the reference point.
 pub fn measures(a: &[f64], b: &[f64]) -> Measures
     requires { ⌜ (length (now a) ≤ mostCoordinates) × (length (now b) ≤ mostCoordinates) ⌝ }
     ensures { λ r. ⌜ r ≡ measuresOf (verticesOf (now (a .entry))) (verticesOf (now (b .entry))) ⌝ }
 {
-    let c = centroid_of_both(a, b);
+    let n = a.len() / 3;
+    let s = add_points(a, [0.0, 0.0, 0.0]);
+    let c = mean(add_points(b, s), n + b.len() / 3);
     let radial = floats::root(farthest(b, c, farthest(a, c, 0.0)));
-    let reference = flat::space::vertex_centroid(a);
+    let reference = mean(s, n);
     Measures {
         eps: 1.4210854715202004e-14 * flat::scale(flat::space::bounds(a)),
         coplanar: 0.0001 * radial,

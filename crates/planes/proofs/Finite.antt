@@ -1,8 +1,8 @@
 -- A plane is finite exactly where its norm is above 2 ^ -1024 (specs/Finite.antt). No Newell sum is more than the norm n, so a sum times
 -- 1 / n is at most 2, and the offset, a sum of three products of at most n * 2 ^ 40, times 1 / n at most 2 ^ 43. But where n is at most
 -- 2 ^ -1024, 1 / n is an infinity, and every part is a product with it.
-use mathlib.Core.Path.{_≡_, sym, subst}
-use mathlib.Core.Bool.{true, false, not}
+use mathlib.Core.Path.{_≡_, refl, sym, ap, subst, _∙_}
+use mathlib.Core.Bool.{Bool, true, false, not, true≢false}
 use mathlib.Core.List.{List, [], _∷_}
 use Prim.Native.Nat.{ℕ, suc, _+_, _*_, _/_, _^_, _≤_, _<_}
 use native.Mathlib.Nat.{le-refl, le-trans, lt-of-le-of-lt, mul-le-mul, mul-le-mul-left, mul-le-mul-right, mul-one, pow-succ'}
@@ -29,10 +29,12 @@ use Rattle.cell.specs.Faces.{facesOf}
 use Rattle.cell.specs.Refusals.{numberRefused, isEmpty, emptyRefused}
 use Rattle.cell.proofs.Faces.{length-faces, face-at, rises-at}
 use Rattle.cell.proofs.Refusals.{any-none, number-within, sound, tame}
-use Rattle.planes.specs.Planes.{dotOf, offsetOf, normOf, unitPlane, planeOf}
+use Rattle.planes.specs.declared.Plane.{Plane}
+use Rattle.planes.specs.Planes.{dotOf, offsetOf, normOf, unitPlane, newellPlane, hasNoArea, PlaneOrNoArea, noArea, hasPlane, planeOf}
 use Rattle.planes.specs.Finite.{tooShort, AllFinite, NoneFinite, FiniteOrNot, FinitePlanes}
-use Rattle.planes.proofs.Faces.{has-corner}
+use Rattle.planes.proofs.Faces.{has-corner, plane-with-area, plane-without-area}
 use Rattle.planes.proofs.Norm.{Normed, normed, value-finite, above-too-short, not-above-too-short, zeros-of-norm, norm-of-zeros}
+use Rattle.planes.proofs.Norm.{zeros-apart, zeros-together}
 use Rattle.planes.proofs.Sums.{NearInSpace, newell-sums, summed-at-most}
 
 -- ---- the parts of a plane whose Newell sums are m
@@ -101,8 +103,26 @@ module _ (m : Point) (d : Normed (at m 0) (at m 1) (at m 2)) where
   no-part-finite h e = (part-not-finite h (at m 0), part-not-finite h (at m 1), part-not-finite h (at m 2), part-not-finite h (neg e))
 
 -- ---- a face by its points
+-- whether an answer is a plane
+abbrev is-plane : PlaneOrNoArea → Bool
+is-plane noArea = false
+is-plane (hasPlane p) = true
+
+-- and the plane that it is
+abbrev the-plane : Plane → PlaneOrNoArea → Plane
+the-plane none noArea = none
+the-plane none (hasPlane p) = p
+
+-- the plane that is answered is that of the Newell sums
+answered-plane : (ps : List Point) (p : Plane) → planeOf ps ≡ hasPlane p → newellPlane ps ≡ p
+answered-plane ps p e = go (hasNoArea ps) refl
+  where
+    go : (b : Bool) → hasNoArea ps ≡ b → newellPlane ps ≡ p
+    go true f = absurd (true≢false (ap is-plane (sym e ∙ plane-without-area ps f)))
+    go false f = ap (the-plane p) (sym (plane-with-area ps f) ∙ e)
+
 finite-or-not : (ps : List Point) → Each [] NearInSpace ps → 0 < length ps → length ps ≤ 2048 → FiniteOrNot ps
-unfolding planeOf
+unfolding newellPlane hasNoArea
 finite-or-not ps near some few =
     let m = newellOf ps in
     let s = newell-sums ps near few in
@@ -111,11 +131,12 @@ finite-or-not ps near some few =
     (summed-at-most (length ps) (at m 1) few (s .y)) (summed-at-most (length ps) (at m 2) few (s .z)) in
     record {
       norm-finite = value-finite (normOf m) (d .n) (2 ^ 1074) (d .value);
-      sums-zero = zeros-of-norm (at m 0) (at m 1) (at m 2) d;
-      norm-zero =
-          λ z. norm-of-zeros (at m 0) (at m 1) (at m 2) (s .x .an-f64) (s .y .an-f64) (s .z .an-f64) (z .0) (z .1) (z .2);
-      all-finite = λ h. parts-finite m d h (getD ps 0 []) (near .holds 0 some);
-      none-finite = λ h. no-part-finite m d h (offsetOf m (getD ps 0 []));
+      sums-zero = λ h. zeros-together m (zeros-of-norm (at m 0) (at m 1) (at m 2) d h);
+      norm-zero = λ h.
+          let z = zeros-apart m h in
+          norm-of-zeros (at m 0) (at m 1) (at m 2) (s .x .an-f64) (s .y .an-f64) (s .z .an-f64) (z .0) (z .1) (z .2);
+      all-finite = λ p e h. subst AllFinite (answered-plane ps p e) (parts-finite m d h (getD ps 0 []) (near .holds 0 some));
+      none-finite = λ p e h. subst NoneFinite (answered-plane ps p e) (no-part-finite m d h (offsetOf m (getD ps 0 [])));
     }
 
 -- ---- the faces of a cell that is not refused

@@ -24,6 +24,8 @@ use Rattle.hypot.specs.Hypot.{hypotOf}
 use Rattle.hypot.specs.Nearest.{IsUnits}
 use Rattle.hypot.proofs.Nearest.{has-magnitude}
 use Rattle.hypot.proofs.Bounds.{hypot-fits, no-shorter, no-longer}
+use Rattle.flat.specs.Points.{Point, at}
+use Rattle.planes.specs.Planes.{allZero}
 use Rattle.planes.specs.Finite.{tooShort}
 
 -- ---- what is a units is at most g units exactly where a is at most g
@@ -180,3 +182,19 @@ zeros-of-norm x y z d h = (zero x (d .x-bound), zero y (d .y-bound), zero z (d .
 
     zero : (x : Float) → AtMost (d .n) (2 ^ 1074) x → eq x zero64 ≡ true
     zero x b = zero-of-bound x (subst (λ (k : ℕ). AtMost k (2 ^ 1074) x) none b)
+
+-- ---- three sums that are all 0, one by one
+pub zeros-together : (n : Point) → (eq (at n 0) zero64 ≡ true) × (eq (at n 1) zero64 ≡ true) × (eq (at n 2) zero64 ≡ true)
+    → allZero n ≡ true
+unfolding allZero
+zeros-together n z = rw (z .0, z .1, z .2)
+
+pub zeros-apart : (n : Point) → allZero n ≡ true
+    → (eq (at n 0) zero64 ≡ true) × (eq (at n 1) zero64 ≡ true) × (eq (at n 2) zero64 ≡ true)
+unfolding allZero
+zeros-apart n h = go (eq (at n 0) zero64) (eq (at n 1) zero64) (eq (at n 2) zero64) h
+  where
+    go : (a b c : Bool) → a && (b && c) ≡ true → (a ≡ true) × (b ≡ true) × (c ≡ true)
+    go true true c h = (refl, refl, h)
+    go true false c h = absurd (true≢false (sym h))
+    go false b c h = absurd (true≢false (sym h))

@@ -1,10 +1,11 @@
--- Planes: the plane of a face, the distance of a point, when two planes are the same, and planes as they are stored.
+-- Planes: the plane of a face or that it has no area, the distance of a point, when two planes are the same, and planes as they are stored.
 use Prim.Native.Nat.{ℕ}
-use mathlib.Core.Bool.{Bool, false, cond}
+use mathlib.Core.Bool.{Bool, false, _&&_, cond}
 use mathlib.Core.List.{List, [], _∷_, map}
 use lib.ListN.{getD}
-use lib.Ieee.{Float, binary64, ofBits, neg, le}
-use Rattle.floats.specs.F64.{_+f_, _-f_, _*f_, _/f_, one64}
+use lib.Ieee.{Float, binary64, ofBits, neg, eq, le}
+use Rattle.places.specs.Loops.{oneIf, countOf}
+use Rattle.floats.specs.F64.{_+f_, _-f_, _*f_, _/f_, zero64, one64}
 use Rattle.floats.specs.Pick.{magnitudeOf}
 use Rattle.hypot.specs.Hypot.{hypotOf}
 use Rattle.flat.specs.Points.{Point, at, pointBy, cornersOf}
@@ -29,13 +30,45 @@ unitPlane n d =
     let inv = one64 /f normOf n in
     record { n = pointBy 3 (λ k. at n k *f inv); d = neg d *f inv }
 
--- plane_of_face: the Newell sums of the face's points, and the offset of the first
-unfoldable pub planeOf : List Point → Plane
-planeOf ps = unitPlane (newellOf ps) (offsetOf (newellOf ps) (getD ps 0 []))
+-- the plane of a face's points by their Newell sums, and the offset of the first
+unfoldable pub newellPlane : List Point → Plane
+newellPlane ps = unitPlane (newellOf ps) (offsetOf (newellOf ps) (getD ps 0 []))
 
--- the planes of faces, in order
+-- ---- a plane, or no area
+-- three sums are all 0; −0 counts as 0
+unfoldable pub allZero : Point → Bool
+allZero n = eq (at n 0) zero64 && (eq (at n 1) zero64 && eq (at n 2) zero64)
+
+-- a face has no area exactly when its three computed Newell sums are all 0
+unfoldable pub hasNoArea : List Point → Bool
+hasNoArea ps = allZero (newellOf ps)
+
+-- what plane_of_face answers of a face: it has no area, or its plane
+pub data PlaneOrNoArea : Type 0 where
+  noArea : PlaneOrNoArea
+  hasPlane : Plane → PlaneOrNoArea
+
+-- plane_of_face: no plane where the face has no area
+unfoldable pub planeOf : List Point → PlaneOrNoArea
+planeOf ps = cond (hasNoArea ps) noArea (hasPlane (newellPlane ps))
+
+-- planes with that of one more face before them, if it has one
+abbrev pub withPlane : PlaneOrNoArea → List Plane → List Plane
+withPlane noArea planes = planes
+withPlane (hasPlane p) planes = p ∷ planes
+
+-- the planes of the faces that have area, in order
 unfoldable pub planesOf : List Point → List (List ℕ) → List Plane
-planesOf vs faces = map (λ face. planeOf (cornersOf vs face)) faces
+planesOf vs [] = []
+planesOf vs (face ∷ faces) = withPlane (planeOf (cornersOf vs face)) (planesOf vs faces)
+
+-- no_area_faces: for each face 1 where it has no area, else 0
+unfoldable pub noAreaFaces : List Point → List (List ℕ) → List ℕ
+noAreaFaces vs faces = map (λ face. oneIf (hasNoArea (cornersOf vs face))) faces
+
+-- how many faces have no area
+unfoldable pub noAreaCount : List Point → List (List ℕ) → ℕ
+noAreaCount vs faces = countOf (λ face. hasNoArea (cornersOf vs face)) faces
 
 -- how far p is beyond a plane: n · p − d
 unfoldable pub distanceOf : Plane → Point → Float

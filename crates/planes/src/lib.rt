@@ -1,8 +1,8 @@
-// Planes: a unit normal and an offset, the plane of a face, and planes in a list.
+// Planes: a unit normal and an offset, the plane of a face or that it has no area, and planes in a list.
 ghost use mathlib.Core.Path.{_≡_};
 ghost use mathlib.Core.List.{[]};
 ghost use Prim.Native.Nat.{_+_, _*_, _<_, _≤_};
-ghost use lib.ListN.{length, getD, set};
+ghost use lib.ListN.{length, getD, set, take};
 ghost use Rattle.places.specs.Lent.{old, new};
 ghost use Rattle.flat.specs.Points.{verticesOf, cornersOf};
 ghost use Rattle.flat.specs.Steps.{Inside};
@@ -10,13 +10,21 @@ ghost use Rattle.cell.specs.Faces.{facesOf};
 ghost use Rattle.cell.specs.Refusals.{emptyRefused};
 ghost use Rattle.cell.specs.Steps.{Sound};
 ghost use mathlib.Core.Bool.{false};
-ghost use Rattle.planes.specs.Planes.{dotOf, offsetOf, unitPlane, planeOf, planesOf, distanceOf, sameSide, coplanarOpposite, inFours};
-ghost use Rattle.planes.specs.Steps.{noPlane};
+ghost use Rattle.planes.specs.Planes.{dotOf, offsetOf, unitPlane, allZero, hasNoArea, noArea, planeOf, planesOf, noAreaFaces};
+ghost use Rattle.planes.specs.Planes.{noAreaCount};
+ghost use Rattle.planes.specs.Planes.{distanceOf, sameSide, coplanarOpposite, inFours};
+ghost use Rattle.planes.specs.Steps.{noPlane, handed};
 
 // A unit normal and an offset; inside is n · x <= d.
 pub struct Plane {
     pub n: [f64; 3],
     pub d: f64,
+}
+
+// The plane of a face that has area. For one of no area there is none, and +0 four times stand in its place.
+pub struct PlaneOrNone {
+    pub area: bool,
+    pub plane: Plane,
 }
 
 // The product n · p.
@@ -46,16 +54,55 @@ fn unit_plane(n: [f64; 3], d: f64) -> Plane
     }
 }
 
-// The plane of a face. Where 1 / norm is infinite, no part of it is finite, as SCOPE 11 says.
+// Whether three sums are all 0, of either sign.
+// Ruled out: a sum that is only small taken for 0; a NaN taken for 0.
+fn all_zero(n: [f64; 3]) -> bool
+    ensures { λ r. ⌜ r ≡ allZero n ⌝ }
+{
+    if n[0] == 0.0 {
+        if n[1] == 0.0 {
+            return n[2] == 0.0;
+        }
+    }
+    false
+}
+
+// Whether a face has no area.
+// Ruled out: a face whose norm alone underflows; a face of two corners read as one with area.
+pub fn has_no_area(coords: &[f64], face: &[u32]) -> bool
+    requires { ⌜ Inside (verticesOf (now coords)) (now face) ⌝ }
+    ensures { λ r. ⌜ r ≡ hasNoArea (cornersOf (verticesOf (old coords)) (old face)) ⌝ }
+{
+    all_zero(flat::space::face_normal(coords, face))
+}
+
+// The answer for a face of no area.
+pub fn no_area() -> PlaneOrNone
+    ensures { λ r. ⌜ r ≡ handed noArea ⌝ }
+{
+    let n = [0.0, 0.0, 0.0];
+    PlaneOrNone {
+        area: false,
+        plane: Plane { n, d: 0.0 },
+    }
+}
+
+// The plane of a face, or that it has no area. Where 1 / norm is infinite, no part of the plane is finite, as SCOPE 11 says.
 // Ruled out: each part divided by the norm, which rounds once instead of twice; an offset taken at the last corner.
-pub fn plane_of_face(coords: &[f64], face: &[u32]) -> Plane
+pub fn plane_of_face(coords: &[f64], face: &[u32]) -> PlaneOrNone
     requires { ⌜ Inside (verticesOf (now coords)) (now face) ⌝ }
     requires { ⌜ 0 < length (now face) ⌝ }
-    ensures { λ r. ⌜ r ≡ planeOf (cornersOf (verticesOf (old coords)) (old face)) ⌝ }
+    ensures { λ r. ⌜ r ≡ handed (planeOf (cornersOf (verticesOf (old coords)) (old face))) ⌝ }
 {
     let n = flat::space::face_normal(coords, face);
+    if all_zero(n) {
+        return no_area();
+    }
     let p = flat::space::vertex_at(coords, face, 0);
-    unit_plane(n, offset(n, p))
+    PlaneOrNone {
+        area: true,
+        plane: unit_plane(n, offset(n, p)),
+    }
 }
 
 // How far p is beyond a plane.
@@ -123,21 +170,65 @@ pub fn put_plane(out: &mut [f64], k: usize, plane: Plane)
     out[i + 3] = plane.d;
 }
 
-// The planes of a cell's faces, one a place of a list that has just so many.
-// Ruled out: every face taken from the first corner on; the last place left as it was.
-pub fn planes(coords: &[f64], corners: &[u32], ends: &[u32], out: &mut [f64])
+// The planes of a cell's faces that have area, laid down at the front of a list, and how many there are.
+// Ruled out: every face taken from the first corner on; a place kept free for a face of no area.
+pub fn planes(coords: &[f64], corners: &[u32], ends: &[u32], out: &mut [f64]) -> usize
     requires { ⌜ Sound (now coords) (now corners) (now ends) ⌝ }
     requires { ⌜ emptyRefused (now corners) (now ends) ≡ false ⌝ }
-    requires { ⌜ length (now out) ≡ 4 * length (now ends) ⌝ }
-    ensures { λ _. ⌜ inFours (new out) ≡ planesOf (verticesOf (old coords)) (facesOf (old corners) (old ends)) ⌝ }
+    requires { ⌜ 4 * length (now ends) ≤ length (now out) ⌝ }
+    ensures { λ r. ⌜ r ≡ length (planesOf (verticesOf (old coords)) (facesOf (old corners) (old ends))) ⌝ }
+    ensures { λ r. ⌜ take r (inFours (new out)) ≡ planesOf (verticesOf (old coords)) (facesOf (old corners) (old ends)) ⌝ }
+{
+    let mut m = 0;
+    let mut start = 0;
+    let mut k = 0;
+    while k < ends.len() {
+        let end = places::corner(ends, k);
+        let face = cell::face(corners, start, end);
+        let found = plane_of_face(coords, face);
+        start = end;
+        k += 1;
+        if found.area {
+            put_plane(out, m, found.plane);
+            m += 1;
+        }
+    }
+    m
+}
+
+// For each face of a cell 1 where it has no area, else 0, one a place of a list that has just so many.
+// Ruled out: 1 for a face with area and 0 for the others; every face taken from the first corner on.
+pub fn no_area_faces(coords: &[f64], corners: &[u32], ends: &[u32], out: &mut [usize])
+    requires { ⌜ Sound (now coords) (now corners) (now ends) ⌝ }
+    requires { ⌜ length (now out) ≡ length (now ends) ⌝ }
+    ensures { λ _. ⌜ new out ≡ noAreaFaces (verticesOf (old coords)) (facesOf (old corners) (old ends)) ⌝ }
 {
     let mut start = 0;
     let mut k = 0;
     while k < ends.len() {
         let end = places::corner(ends, k);
         let face = cell::face(corners, start, end);
-        put_plane(out, k, plane_of_face(coords, face));
+        out[k] = places::one_if(has_no_area(coords, face));
         start = end;
         k += 1;
     }
+}
+
+// How many faces of a cell have no area.
+// Ruled out: the faces with area counted; the first such face alone.
+pub fn no_area_count(coords: &[f64], corners: &[u32], ends: &[u32]) -> usize
+    requires { ⌜ Sound (now coords) (now corners) (now ends) ⌝ }
+    ensures { λ r. ⌜ r ≡ noAreaCount (verticesOf (old coords)) (facesOf (old corners) (old ends)) ⌝ }
+{
+    let mut count = 0;
+    let mut start = 0;
+    let mut k = 0;
+    while k < ends.len() {
+        let end = places::corner(ends, k);
+        let face = cell::face(corners, start, end);
+        count += places::one_if(has_no_area(coords, face));
+        start = end;
+        k += 1;
+    }
+    count
 }

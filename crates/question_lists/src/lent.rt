@@ -16,10 +16,10 @@ pub fn values_room() -> [f64; 8]
     [least; 8]
 }
 
-pub fn counts_room() -> [usize; 8]
-    ensures { λ r. ⌜ 8 ≡ length r ⌝ }
+pub fn counts_room() -> [usize; 264]
+    ensures { λ r. ⌜ 264 ≡ length r ⌝ }
 {
-    [4294967295; 8]
+    [4294967295; 264]
 }
 
 pub fn work_room() -> [f64; 3080]

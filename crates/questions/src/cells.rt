@@ -6,7 +6,7 @@ use question_lists::words::low;
 use question_lists::words::lowest;
 use question_lists::words::word;
 
-// Numbers. The argument of the plane is the number of its face.
+// Numbers.
 pub fn measured(
     q: &[u64],
     coords: &[f64],
@@ -20,7 +20,6 @@ pub fn measured(
         12 => abi::cells::wegrusamt_geometric_centroid(coords, corners, ends, values),
         13 => abi::cells::wegrusamt_bounds(coords, corners, ends, values),
         14 => abi::cells::wegrusamt_scale(coords, corners, ends, values),
-        19 => abi::outward::wegrusamt_plane_of_face(coords, corners, ends, low(word(q, 1)), values),
         _ => unknown(q),
     }
 }
@@ -45,12 +44,13 @@ pub fn counted(
         23 => abi::outward::wegrusamt_is_convex(coords, corners, ends, shape, counts),
         24 => abi::outward::wegrusamt_describe(coords, corners, ends, shape, counts),
         25 => abi::cells::wegrusamt_check_cut(low(word(q, 1)), corners, counts),
+        26 => abi::outward::wegrusamt_no_area_faces(coords, corners, ends, counts),
         _ => unknown(q),
     }
 }
 
-// The survey with one query point, the arguments, or with those that stand behind the vertices; the first argument is then how
-// many numbers the vertices have.
+// Numbers and counts: the survey with one query point, the arguments, or with those that stand behind the vertices, the first argument
+// being how many numbers the vertices have; and the plane of the face whose number is the first argument.
 pub fn surveyed(
     q: &[u64],
     coords: &[f64],
@@ -70,6 +70,14 @@ pub fn surveyed(
             &coords[n..],
             counts,
             values,
+        ),
+        32 => abi::outward::wegrusamt_plane_of_face(
+            coords,
+            corners,
+            ends,
+            low(word(q, 1)),
+            values,
+            counts,
         ),
         _ => unknown(q),
     }

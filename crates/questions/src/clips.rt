@@ -45,6 +45,7 @@ fn overlap(
     first: &mut [f64],
     second: &mut [f64],
     out: &mut [f64],
+    arealess: &mut [usize],
 ) -> u8 {
     let nc = capped(q, 1, coords.len());
     let nk = capped(q, 2, corners.len());
@@ -59,6 +60,7 @@ fn overlap(
         first,
         second,
         out,
+        arealess,
     )
 }
 
@@ -80,7 +82,7 @@ fn ask(
         100 => face(q, coords, corners, ends, first, second, counts),
         101 => abi::clips::wegrusamt_clip_convex(subject, clip, first, second, counts),
         102 => abi::clips::wegrusamt_convex_intersection_area(subject, clip, first, second, values),
-        _ => overlap(q, coords, corners, ends, first, second, values),
+        _ => overlap(q, coords, corners, ends, first, second, values, counts),
     }
 }
 

@@ -106,7 +106,7 @@ pub fn agrees(q: &[u64], coords: &mut [f64], corners: &mut [u32], ends: &[u32]) 
     let mut values = lent::values_room();
     let mut counts = lent::counts_room();
     let n = capped(lists(q), 0, 8);
-    let m = capped(counts_on(q), 0, 8);
+    let m = capped(counts_on(q), 0, 264);
     in_lists(
         q,
         coords,

@@ -33,7 +33,7 @@ use Rattle.planes.proofs.Stored.{length-fours}
 use Rattle.refusals.specs.Refusals.{firstRefusal, listRefusal, localRefusal, pairsRefused, planeRefusal, faceRefusal, facesRefusal}
 use Rattle.refusals.specs.Refusals.{roomRefused, trianglesRefusal, strays, phedRefusal, queriesRefused, surveyRefusal, planesRefused}
 use Rattle.refusals.specs.Refusals.{workRefused, worksRefusal, clipRefusal, planarRefusal, overlapRefusal}
-use Rattle.refusals.specs.Refusals.{checkSizeRefused, checkRefusal}
+use Rattle.refusals.specs.Refusals.{noAreaRefusal, checkSizeRefused, checkRefusal}
 use Rattle.refusals.specs.Steps.{partsRefused}
 
 -- ---- the first of two refusals
@@ -277,6 +277,16 @@ unfolding facesRefusal
 faces-known coords corners ends asked e =
     let two = or-zero _ _ e in
     record { cell = two .0; sound = sound coords corners ends [] asked (two .0); solid = one-row 5 _ (omega arith) (two .1) }
+
+-- a list that is not refused has a place for each face
+pub no-area-known : (coords : List Float) (corners ends : List ℕ) (room : ℕ) → noAreaRefusal coords corners ends room ≡ 0
+    → Sound coords corners ends × (length ends ≤ room)
+unfolding noAreaRefusal
+no-area-known coords corners ends room e =
+    let two = or-zero _ _ e in (
+      faces-known coords corners ends [] (two .0) .sound,
+      ltb-false room (length ends) (one-row 6 _ (omega arith) (two .1)),
+    )
 
 -- what is known of the face k of such a cell
 pub record SolidFace (coords : List Float) (corners ends : List ℕ) (k : ℕ) : Type 0 where

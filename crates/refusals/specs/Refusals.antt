@@ -1,6 +1,6 @@
 -- Why a check refuses a public entry's input, 0 where none does. For a cell it is `refusalOf` of the crate cell; here stand lists of
--- points, the move to a local origin, what is asked of a cell's faces, triangles, triangles that are checked, turning the backward faces,
--- `point_in_phed`, clipping, the overlap and the report's query points.
+-- points, the move to a local origin, what is asked of a cell's faces, the faces of no area, triangles, triangles that are checked,
+-- turning the backward faces, `point_in_phed`, clipping, the overlap and the report's query points.
 -- The refusal 6 of clipping and the overlaps, which is found on the way, is not among these.
 use mathlib.Core.Bool.{Bool, not, _&&_, _||_, cond}
 use mathlib.Core.List.{List, [], _∷_}
@@ -58,6 +58,11 @@ faceRefusal coords corners ends k = refusalOf coords corners ends [] (k ∷ [])
 unfoldable pub facesRefusal : List Float → List ℕ → List ℕ → List ℕ → ℕ
 facesRefusal coords corners ends asked =
     firstRefusal (refusalOf coords corners ends [] asked) (firstRow ((5, emptyRefused corners ends) ∷ []))
+
+-- the faces of no area, told in a list with so much room: 1 to 5 for the cell, then 6 where it has fewer places than the cell has faces
+unfoldable pub noAreaRefusal : List Float → List ℕ → List ℕ → ℕ → ℕ
+noAreaRefusal coords corners ends room =
+    firstRefusal (facesRefusal coords corners ends []) (firstRow ((6, ltb room (length ends)) ∷ []))
 
 -- turning the backward faces: 1 to 4 for the cell, then 11, then 12; 5 is not given
 unfoldable pub turnFacesRefusal : List Float → List ℕ → List ℕ → ℕ

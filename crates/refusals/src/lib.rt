@@ -4,7 +4,7 @@ ghost use Prim.Native.Nat.{_-_, _<_};
 ghost use Rattle.places.specs.Lent.{old};
 ghost use Rattle.places.specs.Loops.{anyOf};
 ghost use Rattle.refusals.specs.Refusals.{listRefusal, localRefusal, pairsRefused, planeRefusal, cellRefusal, containsRefusal};
-ghost use Rattle.refusals.specs.Refusals.{facesRefusal, checkSizeRefused, checkRefusal};
+ghost use Rattle.refusals.specs.Refusals.{facesRefusal, noAreaRefusal, checkSizeRefused, checkRefusal};
 ghost use Rattle.refusals.specs.Refusals.{faceRefusal, roomRefused, turnFacesRefusal, strays, phedRefusal, queriesRefused};
 ghost use Rattle.refusals.specs.Refusals.{surveyRefusal};
 ghost use Rattle.refusals.specs.Refusals.{planesRefused, workRefused, worksRefusal, clipRefusal, planarRefusal, overlapRefusal};
@@ -119,6 +119,21 @@ pub fn faces_refusal(coords: &[f64], corners: &[u32], ends: &[u32], asked: &[u32
     }
     if cell::empty_refused(corners, ends) {
         return 5;
+    }
+    0
+}
+
+// Why the faces of no area are not told in a list with so much room.
+// Ruled out: 6 for a cell that has an empty face; a list that is too short by one let through.
+pub fn no_area_refusal(coords: &[f64], corners: &[u32], ends: &[u32], room: usize) -> u8
+    ensures { λ r. ⌜ r ≡ noAreaRefusal (old coords) (old corners) (old ends) room ⌝ }
+{
+    let why = faces_refusal(coords, corners, ends, &ends[..0]);
+    if why != 0 {
+        return why;
+    }
+    if room < ends.len() {
+        return 6;
     }
     0
 }

@@ -3,17 +3,18 @@ ghost use mathlib.Core.Path.{_≡_};
 ghost use Rattle.places.specs.Lent.{old, new};
 ghost use Rattle.share.specs.Share.{quotientOf, shareAnswer};
 use geometry::Number;
+use geometry::Overlapped;
 
-// One number over another; the first refusal, where one of them is refused.
-// Ruled out: the second number over the first; the refusal of the second told before that of the first.
-fn quotient(part: Number, whole: Number) -> Number
+// The volume of an overlap over a number; the first refusal, where one of them is refused.
+// Ruled out: the number over the volume; the refusal of the second told before that of the first.
+fn quotient(part: Overlapped, whole: Number) -> Number
     ensures { λ r. ⌜ r ≡ quotientOf part whole ⌝ }
 {
     match part {
-        Number::Refused(why) => Number::Refused(why),
-        Number::Is(x) => match whole {
+        Overlapped::Refused(why) => Number::Refused(why),
+        Overlapped::Is(o) => match whole {
             Number::Refused(why) => Number::Refused(why),
-            Number::Is(y) => Number::Is(x / y),
+            Number::Is(y) => Number::Is(o.volume / y),
         },
     }
 }

@@ -11,7 +11,7 @@ use Rattle.overlap.proofs.first_patch.Tie as tie
 skipped : tie.Need-returns
 skipped c =
     let start : tie.Start = search in
-    patch-skipped false (start .args .m) (start .pre .0) (c .before .any-coplanar-skip .ensures) (c .if1 .taken)
+    patch-skipped false _ (start .args .m) _ _ (start .args .plane) (c .before .any-coplanar-skip .ensures) (c .if1 .taken)
 
 few-others : tie.Need-mul-clip-face
 few-others c =
@@ -37,7 +37,7 @@ clipped c =
     let sifted : tie.After-other-planes = search in
     let asked : tie.Else1 = search in
     let start : tie.Start = search in
-    patch-clipped false (start .args .m) (start .pre .0) (asked .before .any-coplanar-skip .ensures) (asked .if1 .left)
+    patch-clipped false _ (start .args .m) _ _ (start .args .plane) (asked .before .any-coplanar-skip .ensures) (asked .if1 .left)
     (rw (front-planes, sifted .other-planes .ensures .1 .0) at (left .clip-face .ensures))
 
 pub first-patch-spec : {M : Type 1} → statement M

@@ -8,7 +8,7 @@ use Rattle.overlap.proofs.second_patch.Tie as tie
 skipped : tie.Need-returns
 skipped c =
     let start : tie.Start = search in
-    patch-skipped true (start .args .m) (start .pre) (c .before .any-coplanar-skip .ensures) (c .if1 .taken)
+    patch-skipped true _ (start .args .m) _ _ (start .args .plane) (c .before .any-coplanar-skip .ensures) (c .if1 .taken)
 
 clip-face-requires : tie.Need-clip-face-requires
 clip-face-requires c κs =
@@ -21,7 +21,7 @@ clipped c =
     let start : tie.Start = search in
     let asked : tie.Else1 = search in
     let left : tie.After-clip-face = search in
-    patch-clipped true (start .args .m) (start .pre) (asked .before .any-coplanar-skip .ensures) (asked .if1 .left)
+    patch-clipped true _ (start .args .m) _ _ (start .args .plane) (asked .before .any-coplanar-skip .ensures) (asked .if1 .left)
     (left .clip-face .ensures)
 
 pub second-patch-spec : {M : Type 1} → statement M

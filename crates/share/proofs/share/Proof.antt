@@ -3,14 +3,15 @@ use mathlib.Core.Path.{_≡_}
 use mathlib.Core.List.{List}
 use lib.Ieee.{Float}
 use Rattle.geometry.specs.declared.Number.{Number}
-use Rattle.geometry.specs.Clipping.{Measure}
+use Rattle.geometry.specs.declared.Overlapped.{Overlapped}
+use Rattle.geometry.specs.Clipping.{Measure, Overlapping}
 use Rattle.share.specs.Share.{quotientOf, shareAnswer}
 use borrow.Author.Needs.{needs}
 use Rattle.share.proofs.share.Statement.{statement}
 use Rattle.share.proofs.share.Tie as tie
 
 -- an overlap, the volume and their quotient
-made-of : {a v whole r : Number} {first second : List Float} {shared : Measure} → (a, first, second) ≡ shared → v ≡ whole
+made-of : {a : Overlapped} {v whole r : Number} {first second : List Float} {shared : Overlapping} → (a, first, second) ≡ shared → v ≡ whole
     → r ≡ quotientOf a v
     → _≡_ {A = Measure} (r, first, second) (quotientOf (shared .0) whole, shared .1, shared .2)
 made-of e h q = rw (← e, ← h, q)

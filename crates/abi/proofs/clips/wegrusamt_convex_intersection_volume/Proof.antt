@@ -1,6 +1,6 @@
--- `abi::clips::wegrusamt_convex_intersection_volume` meets its contract: the measure is put into its list, and the work lists are as
--- the entry leaves them.
-use Rattle.abi.proofs.Told.{measured-by}
+-- `abi::clips::wegrusamt_convex_intersection_volume` meets its contract: the volume and the counts are put into their lists, and the
+-- work lists are as the entry leaves them.
+use Rattle.abi.proofs.Told.{overlapped-by}
 use borrow.Author.Needs.{needs}
 use Rattle.abi.proofs.clips.wegrusamt_convex_intersection_volume.Statement.{statement}
 use Rattle.abi.proofs.clips.wegrusamt_convex_intersection_volume.Tie as tie
@@ -9,12 +9,13 @@ returns : tie.Need-returns
 returns c =
     let start : tie.Start = search in
     let measured : tie.After-convex-intersection-volume = search in
-    let put : tie.After-put-number = search in
-    measured-by (measured .convex-intersection-volume .ensures) (start .args .out .now) (put .put-number .ensures)
+    let put : tie.After-put-overlapped = search in
+    overlapped-by (measured .convex-intersection-volume .ensures) (start .args .out .now) (start .args .arealess .now)
+    (put .put-overlapped .ensures)
 
 pub wegrusamt-convex-intersection-volume-spec : {M : Type 1} → statement M
 wegrusamt-convex-intersection-volume-spec =
     tie.close
     (tie.spec
-    (λ c κs. search needs) (λ c κs. search needs) (λ c. search needs) (λ c. search needs) (λ c. search needs)
+    (λ c κs. search needs) (λ c κs. search needs) (λ c. search needs) (λ c. search needs) (λ c. search needs) (λ c. search needs)
     returns)

@@ -1,9 +1,9 @@
 -- `geometry::clipping::convex_intersection_area` meets its contract: lists that pass the checks are short enough for the room, and both
 -- work lists are cleared behind it.
-use mathlib.Core.Path.{sym, _∙_}
+use mathlib.Core.Path.{sym, ap, _∙_}
 use native.Mathlib.Nat.{sub-zero}
 use Rattle.refusals.proofs.Refusals.{planar-known}
-use Rattle.geometry.specs.Clipping.{overlapAreaAnswer}
+use Rattle.geometry.specs.Clipping.{numberOf, overlapAreaAnswer}
 use Rattle.geometry.specs.declared.Number.{Number}
 use Rattle.geometry.proofs.Answers.{refused}
 use Rattle.geometry.proofs.WorkLists.{measure-passed}
@@ -38,8 +38,8 @@ is-answered c =
     let kept = area .convex-intersection-area .kept in
     let cleared : tie.After-settle = search in
     let answer : tie.After-number = search in
-    measure-passed _ (start .args .first .now) (start .args .second .now) (at .before .planar-refusal .ensures) (at .if1 .left)
-    (answer .number .ensures) (area .convex-intersection-area .ensures)
+    measure-passed _ Number.Refused (start .args .first .now) (start .args .second .now) (at .before .planar-refusal .ensures)
+    (at .if1 .left) (answer .number .ensures ∙ ap numberOf (area .convex-intersection-area .ensures))
     (cleared .settle .ensures .0 ∙ rw (sub-zero, kept .1 .1 .0)) (cleared .settle .ensures .1 ∙ rw (sub-zero, kept .1 .1 .1 .0))
 
 pub convex-intersection-area-spec : {M : Type 1} → statement M

@@ -1,9 +1,9 @@
 -- `geometry::clipping::convex_intersection_volume` meets its contract: cells that pass the checks are sound and have no empty face, the
 -- work lists are short enough, and the room clears them.
-use mathlib.Core.Path.{sym, _∙_}
+use mathlib.Core.Path.{sym, ap, _∙_}
 use Rattle.refusals.proofs.Refusals.{overlap-known}
-use Rattle.geometry.specs.Clipping.{overlapAnswer}
-use Rattle.geometry.specs.declared.Number.{Number}
+use Rattle.geometry.specs.Clipping.{sharedAnswer, overlapAnswer}
+use Rattle.geometry.specs.declared.Overlapped.{Overlapped}
 use Rattle.geometry.proofs.Answers.{refused}
 use Rattle.geometry.proofs.WorkLists.{measure-passed}
 use borrow.Author.Needs.{needs}
@@ -16,7 +16,7 @@ is-refused c =
     let start : tie.Start = search in
     let found : tie.After-overlap-refusal = search in
     let at : tie.Then1 = search in
-    refused (found .overlap-refusal .ensures) (λ why. (Number.Refused why, start .args .first .now, start .args .second .now)) _
+    refused (found .overlap-refusal .ensures) (λ why. (Overlapped.Refused why, start .args .first .now, start .args .second .now)) _
     (at .if1 .taken)
 
 convex-intersection-volume-requires : tie.Need-convex-intersection-volume-requires
@@ -38,9 +38,9 @@ is-answered c =
     let at : tie.Else1 = search in
     let volume : tie.After-convex-intersection-volume = search in
     let made = volume .convex-intersection-volume .ensures in
-    let answer : tie.After-number = search in
-    measure-passed _ (start .args .first .now) (start .args .second .now) (at .before .overlap-refusal .ensures) (at .if1 .left)
-    (answer .number .ensures) (made .0) (made .1 .0) (made .1 .1)
+    let answer : tie.After-shared = search in
+    measure-passed _ Overlapped.Refused (start .args .first .now) (start .args .second .now) (at .before .overlap-refusal .ensures)
+    (at .if1 .left) (answer .shared .ensures ∙ ap sharedAnswer (made .0)) (made .1 .0) (made .1 .1)
 
 pub convex-intersection-volume-spec : {M : Type 1} → statement M
 convex-intersection-volume-spec =

@@ -1,8 +1,8 @@
 /* Times two builds of the C names in one run; bench/beside makes the two shared objects and calls this.
  * Each side's time is the median of short rounds taken in turn, and the ratio the median of the ratios of neighbouring
  * rounds. Which side begins changes from one pair of rounds to the next. Before a row is timed both builds are asked once,
- * and a row of which any bit differs is not timed. Where one build is from before wegrusamt_hypot, which rounds otherwise
- * than wegrusamt_length did, the rows that rest on it are held to each other within a tolerance. */
+ * and a row of which any bit differs is not timed. A build from before wegrusamt_no_area_faces is called without the lists
+ * for counts that two entries have since; where one build is such, what stands in those lists is not compared. */
 #include <dlfcn.h>
 #include <math.h>
 #include <stdio.h>
@@ -21,13 +21,6 @@
 #define NUMBERS 1023
 #define FULL_CIRCLE 6.283185307179586
 
-/* The name of hypot before it was the nearest number. */
-#define FORMER_HYPOT "wegrusamt_length"
-
-/* How far the answers of two rules for hypot may be apart, as a part of the larger one: far above some last places, and far
- * below what a fault would make. */
-#define TOLERANCE 1e-12
-
 /* The three lists of a cell, as the entries take them. */
 #define LISTS(cell) (cell).coords, (cell).coords_len, (cell).corners, (cell).corners_len, (cell).ends, (cell).ends_len
 
@@ -45,10 +38,17 @@ static double planes[4 * MOST_FACES], numbers[NUMBERS][2];
 static struct answers {
     double out[NUMBERS], first[MOST_WORK], second[MOST_WORK];
     uint32_t triangles[MOST_CORNERS][3];
-    size_t counts[2];
+    size_t counts[2], no_area[MOST_FACES];
 } answers;
 
-/* The entries of one build. */
+/* The two entries as they were before they told of faces that have no area. */
+typedef uint8_t former_plane_of_face(const double *, size_t, const uint32_t *, size_t, const uint32_t *, size_t, uint32_t,
+                                     double *, size_t);
+typedef uint8_t former_convex_intersection_volume(const double *, size_t, const uint32_t *, size_t, const uint32_t *, size_t,
+                                                  const double *, size_t, const uint32_t *, size_t, const uint32_t *, size_t,
+                                                  double *, size_t, double *, size_t, double *, size_t);
+
+/* The entries of one build. Of a build from before wegrusamt_no_area_faces the former ones are set, else the present ones. */
 struct build {
     __typeof__(&wegrusamt_triangles) triangles;
     __typeof__(&wegrusamt_volume) volume;
@@ -57,21 +57,22 @@ struct build {
     __typeof__(&wegrusamt_plane_of_face) plane_of_face;
     __typeof__(&wegrusamt_clip_face) clip_face;
     __typeof__(&wegrusamt_convex_intersection_volume) convex_intersection_volume;
-    /* Whether its hypot is that of the former name. */
-    int is_former;
+    __typeof__(&wegrusamt_no_area_faces) no_area_faces;
+    former_plane_of_face *former_plane;
+    former_convex_intersection_volume *former_overlap;
 };
 
 /* The old one and the new one. */
 static struct build builds[2];
 
-/* A row of the table: how its input is made, what is called on it, how often in a round, how many times this calls the entry,
- * and whether two rules for hypot give it other last places. */
+/* A row of the table: how its input is made, what is called on it, how often in a round, and how many times this calls the
+ * entry. */
 struct row {
     const char *name;
     void (*make)(int n);
     int n;
     uint8_t (*call)(const struct build *build);
-    int calls, entries, rests_on_hypot;
+    int calls, entries;
 };
 
 static void *found(void *library, const char *name)
@@ -95,13 +96,25 @@ static struct build loaded(const char *path)
         .triangles = found(library, "wegrusamt_triangles"),
         .volume = found(library, "wegrusamt_volume"),
         .root = found(library, "wegrusamt_root"),
-        .plane_of_face = found(library, "wegrusamt_plane_of_face"),
+        .hypot = found(library, "wegrusamt_hypot"),
         .clip_face = found(library, "wegrusamt_clip_face"),
-        .convex_intersection_volume = found(library, "wegrusamt_convex_intersection_volume"),
-        .is_former = dlsym(library, "wegrusamt_hypot") == NULL && dlsym(library, FORMER_HYPOT) != NULL,
+        .no_area_faces = dlsym(library, "wegrusamt_no_area_faces"),
     };
-    build.hypot = found(library, build.is_former ? FORMER_HYPOT : "wegrusamt_hypot");
+    void *plane = found(library, "wegrusamt_plane_of_face"), *overlap = found(library, "wegrusamt_convex_intersection_volume");
+    if (build.no_area_faces == NULL) {
+        build.former_plane = plane;
+        build.former_overlap = overlap;
+    } else {
+        build.plane_of_face = plane;
+        build.convex_intersection_volume = overlap;
+    }
     return build;
+}
+
+/* Whether only one of the two tells of faces that have no area. */
+static int one_is_former(void)
+{
+    return (builds[0].no_area_faces == NULL) != (builds[1].no_area_faces == NULL);
 }
 
 static void check(uint8_t code, const char *name)
@@ -141,14 +154,27 @@ static uint8_t hypots(const struct build *build)
     return 0;
 }
 
+static uint8_t plane(const struct build *build, const struct cell *cell, uint32_t face, double *out)
+{
+    if (build->former_plane != NULL) {
+        return build->former_plane(LISTS(*cell), face, out, 4);
+    }
+    return build->plane_of_face(LISTS(*cell), face, out, 4, answers.no_area + face, 1);
+}
+
 /* The planes of all faces, since the normals of a box have their one part in different places. */
 static uint8_t all_planes(const struct build *build)
 {
     uint8_t code = 0;
     for (uint32_t face = 0; face < one.ends_len; face++) {
-        code |= build->plane_of_face(LISTS(one), face, answers.out + 4 * face, 4);
+        code |= plane(build, &one, face, answers.out + 4 * face);
     }
     return code;
+}
+
+static uint8_t flags(const struct build *build)
+{
+    return build->no_area_faces(LISTS(one), answers.no_area, MOST_FACES);
 }
 
 /* Each plane adds a point at most. The work lists are no longer than this, since a call clears the whole of them. */
@@ -165,8 +191,11 @@ static uint8_t clip(const struct build *build)
 
 static uint8_t overlap(const struct build *build)
 {
+    if (build->former_overlap != NULL) {
+        return build->former_overlap(LISTS(one), LISTS(other), answers.first, room(), answers.second, room(), answers.out, 1);
+    }
     return build->convex_intersection_volume(LISTS(one), LISTS(other), answers.first, room(), answers.second, room(),
-                                             answers.out, 1);
+                                             answers.out, 1, answers.no_area, 2);
 }
 
 /* ---- what they are asked about ---- */
@@ -298,7 +327,7 @@ static void move(struct cell *cell)
 static void take_planes(void)
 {
     for (uint32_t face = 0; face < other.ends_len; face++) {
-        check(builds[0].plane_of_face(LISTS(other), face, planes + 4 * face, 4), "plane_of_face");
+        check(plane(&builds[0], &other, face, planes + 4 * face), "plane_of_face");
     }
 }
 
@@ -358,24 +387,50 @@ static void two_tilted_prisms(int n)
     move(&other);
 }
 
+/* Puts the other cell far to the side of the one, so that their boxes miss. */
+static void put_aside(void)
+{
+    for (size_t k = 0; k < other.coords_len; k += 3) {
+        other.coords[k] += 9.0;
+    }
+}
+
+static void boxes_apart(int n)
+{
+    two_boxes(n);
+    put_aside();
+}
+
+static void tilted_prisms_apart(int n)
+{
+    two_tilted_prisms(n);
+    put_aside();
+}
+
 /* ---- the table ---- */
 
 static const struct row rows[] = {
-    {"triangles", polygon, 4, cut, 2000, 1, 0},
-    {"triangles", polygon, 64, cut, 40, 1, 0},
-    {"triangles", polygon, 256, cut, 4, 1, 0},
-    {"volume", prism, 4, measure, 400, 1, 0},
-    {"volume", prism, 36, measure, 40, 1, 0},
-    {"volume", prism, 124, measure, 8, 1, 0},
-    {"root", all_exponents, NUMBERS, roots, 1, NUMBERS, 0},
-    {"hypot", usual_pairs, NUMBERS, hypots, 1, NUMBERS, 1},
-    {"hypot, a part 0", pairs_with_0, NUMBERS, hypots, 1, NUMBERS, 0},
-    {"plane_of_face, box", box, 4, all_planes, 400, 6, 0},
-    {"plane_of_face, tilted", tilted_prism, 4, all_planes, 400, 6, 1},
-    {"clip_face, box", square_in_box, 4, clip, 400, 1, 0},
-    {"clip_face, tilted", polygon_in_prism, 16, clip, 100, 1, 0},
-    {"convex_intersection_volume, boxes", two_boxes, 4, overlap, 60, 1, 0},
-    {"convex_intersection_volume, tilted", two_tilted_prisms, 16, overlap, 8, 1, 1},
+    {"triangles", polygon, 4, cut, 2000, 1},
+    {"triangles", polygon, 64, cut, 40, 1},
+    {"triangles", polygon, 256, cut, 4, 1},
+    {"volume", prism, 4, measure, 400, 1},
+    {"volume", prism, 36, measure, 40, 1},
+    {"volume", prism, 124, measure, 8, 1},
+    {"root", all_exponents, NUMBERS, roots, 1, NUMBERS},
+    {"hypot", usual_pairs, NUMBERS, hypots, 1, NUMBERS},
+    {"hypot, a part 0", pairs_with_0, NUMBERS, hypots, 1, NUMBERS},
+    {"plane_of_face, box", box, 4, all_planes, 400, 6},
+    {"plane_of_face, tilted", tilted_prism, 4, all_planes, 400, 6},
+    {"clip_face, box", square_in_box, 4, clip, 400, 1},
+    {"clip_face, tilted", polygon_in_prism, 16, clip, 100, 1},
+    {"convex_intersection_volume, boxes", two_boxes, 4, overlap, 60, 1},
+    {"convex_intersection_volume, tilted", two_tilted_prisms, 16, overlap, 8, 1},
+    {"convex_intersection_volume, miss", boxes_apart, 4, overlap, 400, 1},
+    {"convex_intersection_volume, miss", tilted_prisms_apart, 16, overlap, 100, 1},
+    {"convex_intersection_volume, miss", tilted_prisms_apart, 124, overlap, 20, 1},
+    {"no_area_faces", box, 4, flags, 400, 1},
+    {"no_area_faces", tilted_prism, 16, flags, 100, 1},
+    {"no_area_faces", tilted_prism, 124, flags, 20, 1},
 };
 
 static double nanoseconds(void)
@@ -410,32 +465,17 @@ static double median(double *values)
     return values[ROUNDS / 2];
 }
 
-static int have_two_rules(void)
-{
-    return builds[0].is_former != builds[1].is_former;
-}
-
-/* Puts the numbers of the one in the place of those of the other that are within the tolerance of them. */
-static void level(const double *one, double *other, int n)
-{
-    for (int k = 0; k < n; k++) {
-        if (fabs(one[k] - other[k]) <= TOLERANCE * fmax(fabs(one[k]), fabs(other[k]))) {
-            other[k] = one[k];
-        }
-    }
-}
-
-/* Whether both builds write the same bits, but for numbers within the tolerance where they may differ. */
+/* Whether both builds write the same bits, but for the list that a former build does not know. */
 static int are_same(const struct row *row)
 {
     static struct answers of_both[2];
     for (int side = 0; side < 2; side++) {
         memset(&answers, 0, sizeof answers);
         check(row->call(&builds[side]), row->name);
+        if (one_is_former()) {
+            memset(answers.no_area, 0, sizeof answers.no_area);
+        }
         memcpy(&of_both[side], &answers, sizeof answers);
-    }
-    if (row->rests_on_hypot && have_two_rules()) {
-        level(of_both[0].out, of_both[1].out, LENGTH(of_both[0].out));
     }
     return memcmp(&of_both[0], &of_both[1], sizeof answers) == 0;
 }
@@ -455,8 +495,13 @@ static void print_timed(const struct row *row)
         }
         ratios[round] = times[1][round] / times[0][round];
     }
-    printf("%-34s %6zu %12.1f %12.1f %8.3f%s\n", row->name, size_of(row), median(times[0]), median(times[1]), median(ratios),
-           row->rests_on_hypot && have_two_rules() ? " *" : "");
+    printf("%-34s %6zu %12.1f %12.1f %8.3f\n", row->name, size_of(row), median(times[0]), median(times[1]), median(ratios));
+}
+
+/* Whether both builds have the entry of a row. */
+static int is_in_both(const struct row *row)
+{
+    return row->call != flags || (builds[0].no_area_faces != NULL && builds[1].no_area_faces != NULL);
 }
 
 /* Holds the two builds to the same answers, and times them; 1 where the answers differ. */
@@ -481,20 +526,19 @@ int main(int argc, char **argv)
     int status = 0, taken = 0;
     builds[0] = loaded(argv[1]);
     builds[1] = loaded(argv[2]);
-    if (have_two_rules()) {
-        printf("one archive has %s, which rounds otherwise than wegrusamt_hypot of the other: the answers of the rows marked * are\n"
-               "held to each other within %g, those of all other rows bit for bit\n", FORMER_HYPOT, TOLERANCE);
+    if (builds[0].no_area_faces == NULL || builds[1].no_area_faces == NULL) {
+        printf("an archive is from before wegrusamt_no_area_faces: there is no row of it, and counts are not compared\n");
     }
     printf("ns per call, medians of %d rounds taken in turn; the size is in corners of the cell, or in numbers\n", ROUNDS);
     printf("%-34s %6s %12s %12s %8s\n", "entry", "size", "old", "new", "new/old");
     for (const struct row *row = rows; row < rows + LENGTH(rows); row++) {
-        if (strstr(row->name, word) != NULL) {
+        if (strstr(row->name, word) != NULL && is_in_both(row)) {
             taken++;
             status |= compare(row);
         }
     }
     if (taken == 0) {
-        fprintf(stderr, "bench/beside: no row has '%s' in its name\n", word);
+        fprintf(stderr, "bench/beside: no row of both archives has '%s' in its name\n", word);
         return 2;
     }
     return status;

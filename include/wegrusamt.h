@@ -22,7 +22,7 @@
  *   3 ends    ends fall, or the last is not the corner count
  *   4 index   a corner not below the vertex count, a face number not below the face count, or a place of a face to
  *             check not below its corner count
- *   5 empty   any face of no corners (planes, outward turning and intersection only)
+ *   5 empty   any face of no corners (planes, faces of no area, outward turning and intersection only)
  *  11 sides   a side between two different vertices, taken without direction, does not occur exactly twice over
  *             all faces, or a face holds a vertex twice (turning of backward faces only)
  *  12 choice  no choice of faces to reverse closes the cell (turning of backward faces only)
@@ -31,8 +31,9 @@
  * The first that applies is returned: in this order, and for two cells 1 to 5 of the first, then of the second,
  * then 6. Work lists and query values are judged with the first cell's 1 and 2.
  *
- * On 0 each list for answers (out, count, counts, volume, shown) has its values at its front; what stands behind
- * them is as it was. A refused call leaves every list as it was, save the two work lists on a refusal 6.
+ * On 0 each list for answers (out, count, counts, volume, shown, area, no_area) has its values at its front; what
+ * stands behind them is as it was. A refused call leaves every list as it was, save the two work lists on a refusal
+ * 6.
  *
  * Work lists (clipping and overlaps): `first` and `second` are lent to work in, and their numbers before the call
  * do not matter. A refusal 1 to 5 leaves both as they were. After any other call, refused by 6 or not, every
@@ -140,24 +141,33 @@ uint8_t wegrusamt_turn_faces(const double *coords, size_t coords_len, uint32_t *
 uint8_t wegrusamt_into_ccw(const double *coords, size_t coords_len, uint32_t *corners, size_t corners_len,
                            const uint32_t *ends, size_t ends_len);
 
-/* The plane of one face. out: the unit normal x, y, z, then the offset; inside is normal . p <= offset. A face that
- * has no area by its computed sums (its three Newell sums are all 0) has NaN in all four parts. Where the norm,
- * wegrusamt_hypot(wegrusamt_hypot(x, y), z) of the sums, is not 0 but at most 2^-1024, 1 / norm overflows: a part
- * of the normal is NaN where its sum is 0 and infinite elsewhere, and the offset is NaN or infinite. Every other
- * plane is finite. */
+/* The plane of one face, or that the face has no area: that its three Newell sums, as they are computed, are all 0.
+ * area: 1 number, 1 for a plane and 0 for no area. out: of a plane, the unit normal x, y, z, then the offset; inside
+ * is normal . p <= offset. Of a face that has no area nothing is written to out, which may then be of any length. A
+ * normal that only underflows in its length stays a plane: where the norm, wegrusamt_hypot(wegrusamt_hypot(x, y), z)
+ * of the sums, is not 0 but at most 2^-1024, 1 / norm overflows, a part of the normal is NaN where its sum is 0 and
+ * infinite elsewhere, and the offset is NaN or infinite. Every other plane is finite. */
 uint8_t wegrusamt_plane_of_face(const double *coords, size_t coords_len, const uint32_t *corners,
                                 size_t corners_len, const uint32_t *ends, size_t ends_len, uint32_t face,
-                                double *out, size_t out_len);
+                                double *out, size_t out_len, size_t *area, size_t area_len);
+
+/* Which faces have no area, as above, so that a tracer is told where to look. out: a number for each face in order,
+ * 1 where it has no area and 0 where it has a plane. */
+uint8_t wegrusamt_no_area_faces(const double *coords, size_t coords_len, const uint32_t *corners,
+                                size_t corners_len, const uint32_t *ends, size_t ends_len, size_t *out,
+                                size_t out_len);
 
 /* The volume that two cells share. That both are convex, with faces turned outward, is not checked. out: 1
- * number. Refusals 1 to 5 of the first cell, 1 to 5 of the second, then 6. */
+ * number. no_area: 2 numbers, how many faces of the first cell and of the second have no area, counted over all
+ * faces, even where the boxes of the cells miss each other. Refusals 1 to 5 of the first cell, 1 to 5 of the second,
+ * then 6. */
 uint8_t wegrusamt_convex_intersection_volume(const double *coords, size_t coords_len, const uint32_t *corners,
                                              size_t corners_len, const uint32_t *ends, size_t ends_len,
                                              const double *other_coords, size_t other_coords_len,
                                              const uint32_t *other_corners, size_t other_corners_len,
                                              const uint32_t *other_ends, size_t other_ends_len, double *first,
                                              size_t first_len, double *second, size_t second_len, double *out,
-                                             size_t out_len);
+                                             size_t out_len, size_t *no_area, size_t no_area_len);
 
 /* ---- triangles over the places of a face: refusals 1, 4, and 6 ---- */
 

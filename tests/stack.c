@@ -13,14 +13,14 @@ static unsigned char *stack;
 static ucontext_t back, there;
 static double coords[3 * VERTICES], far_coords[3 * VERTICES], queries[768], first[3072], second[3072], planes[1024], plane[1024];
 static double to_move[3 * VERTICES];
-static uint32_t torus[4 * VERTICES], torus_ends[VERTICES], wide[MOST], wide_ends[VERTICES], one[MOST], one_end[1], marked[2304];
+static uint32_t torus[4 * VERTICES], thin[4 * VERTICES], torus_ends[VERTICES], wide[MOST], wide_ends[VERTICES], one[MOST], one_end[1], marked[2304];
 static uint32_t triangles[MOST][3], fan[3 * (VERTICES - 2)];
 static double out[8];
-static size_t counts[4];
+static size_t counts[4], flags[VERTICES];
 static uint8_t code;
 
-/* a ring of rings, 256 vertices and 256 quadrangles, closed; the same with eight corners a face; one face of all corners; and the
- * cut of a face of 256 corners from its first corner to all others */
+/* a ring of rings, 256 vertices and 256 quadrangles, closed; the same with eight corners a face; the same with the first face in one
+ * point; one face of all corners; and the cut of a face of 256 corners from its first corner to all others */
 static void make_cells(void) {
     for (int i = 0; i < RING; i++)
         for (int j = 0; j < RING; j++) {
@@ -32,10 +32,12 @@ static void make_cells(void) {
             int right = RING * ((i + 1) % RING) + j, up = RING * i + (j + 1) % RING, over = RING * ((i + 1) % RING) + (j + 1) % RING;
             uint32_t face[4] = {v, right, over, up};
             memcpy(torus + 4 * v, face, sizeof face);
+            memcpy(thin + 4 * v, face, sizeof face);
             torus_ends[v] = 4 * (v + 1);
             for (int k = 0; k < 4; k++) wide[8 * v + k] = wide[8 * v + 7 - k] = face[k];
             wide_ends[v] = 8 * (v + 1);
         }
+    for (int k = 0; k < 4; k++) thin[k] = 0;
     for (int k = 0; k < 3 * VERTICES; k++) to_move[k] = coords[k] + 4000000;
     for (int k = 0; k < MOST; k++) one[k] = k % VERTICES;
     one_end[0] = MOST;
@@ -63,7 +65,9 @@ static void survey_of_one_face(void) { code = wegrusamt_survey(ONE, queries, 768
 static void is_convex(void) { code = wegrusamt_is_convex(WIDE, 2, counts, 4); }
 static void into_ccw(void) { code = wegrusamt_into_ccw(WIDE); }
 static void turn_faces(void) { code = wegrusamt_turn_faces(TORUS, counts, 4); }
-static void plane_of_face(void) { code = wegrusamt_plane_of_face(ONE, 0, out, 8); }
+static void plane_of_face(void) { code = wegrusamt_plane_of_face(ONE, 0, out, 8, counts, 4); }
+static void no_area_faces(void) { code = wegrusamt_no_area_faces(WIDE, flags, VERTICES); }
+static void no_area_of_one_face(void) { code = wegrusamt_no_area_faces(ONE, flags, VERTICES); }
 static void clip_face(void) { code = wegrusamt_clip_face(TORUS, 17, planes, 1024, 0, first, 3072, second, 3072, counts, 4); }
 static void clip_convex(void) { code = wegrusamt_clip_convex(plane, 1024, plane, 1024, first, 3072, second, 3072, counts, 4); }
 static void centroid(void) { code = wegrusamt_centroid(WIDE, out, 8); }
@@ -97,7 +101,17 @@ static void leaves(void) {
 }
 static void overlap(void) {
     code = wegrusamt_convex_intersection_volume(TORUS, far_coords, 3 * VERTICES, torus, 4 * VERTICES, torus_ends, VERTICES, first, 3072,
-                                                second, 3072, out, 8);
+                                                second, 3072, out, 8, counts, 4);
+}
+/* a cell of which one face has no area: the sums of its faces are computed once more */
+static void overlap_of_thin(void) {
+    code = wegrusamt_convex_intersection_volume(coords, 3 * VERTICES, thin, 4 * VERTICES, torus_ends, VERTICES, far_coords, 3 * VERTICES,
+                                                torus, 4 * VERTICES, torus_ends, VERTICES, first, 3072, second, 3072, out, 8, counts, 4);
+}
+/* boxes that miss: the faces are counted all the same */
+static void overlap_of_none(void) {
+    code = wegrusamt_convex_intersection_volume(TORUS, to_move, 3 * VERTICES, torus, 4 * VERTICES, torus_ends, VERTICES, first, 3072,
+                                                second, 3072, out, 8, counts, 4);
 }
 
 /* bytes of the stack that a call has used */
@@ -120,9 +134,11 @@ int main(void) {
         {"volume", volume, 63000}, {"geometric_centroid", geometric_centroid, 63000}, {"survey", survey, 63000},
         {"survey, one face", survey_of_one_face, 63000}, {"triangles", cut, 38000},
         {"triangle_places", cut_by_place, 96000}, {"check_cut", check_cut, 4000}, {"closed", closed, 12000},
-        {"turn_faces", turn_faces, 133000}, {"convex_intersection_volume", overlap, 26000}, {"contains", contains, 1000},
-        {"point_in_phed", in_phed, 1000}, {"is_convex", is_convex, 1000}, {"into_ccw", into_ccw, 1000},
-        {"plane_of_face", plane_of_face, 1000}, {"clip_face", clip_face, 1000}, {"clip_convex", clip_convex, 1000},
+        {"turn_faces", turn_faces, 133000}, {"convex_intersection_volume", overlap, 26000},
+        {"the same, a face of no area", overlap_of_thin, 26000}, {"the same, boxes that miss", overlap_of_none, 26000},
+        {"contains", contains, 1000}, {"point_in_phed", in_phed, 1000}, {"is_convex", is_convex, 1000}, {"into_ccw", into_ccw, 1000},
+        {"plane_of_face", plane_of_face, 1000}, {"no_area_faces", no_area_faces, 1000},
+        {"no_area_faces, one face", no_area_of_one_face, 1000}, {"clip_face", clip_face, 1000}, {"clip_convex", clip_convex, 1000},
         {"convex_intersection_area", area, 1000}, {"centroid", centroid, 1000}, {"bounds", bounds, 1000}, {"scale", scale, 1000},
         {"describe", describe, 1000}, {"newell_normal", newell_normal, 1000}, {"vertex_centroid", vertex_centroid, 1000},
         {"list_bounds", list_bounds, 1000}, {"to_local", to_local, 1000}, {"signed_area2", signed_area2, 1000},

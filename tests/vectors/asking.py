@@ -9,11 +9,12 @@ TOP = os.path.dirname(os.path.dirname(HERE))
 ORACLE = os.path.join(TOP, 'rust', 'oracle')
 
 # The C names without their prefix: the number by which crates/questions knows the entry, how many numbers it answers in a list
-# and how many counts. survey_of_queries is survey with its query points behind the vertices.
+# and how many counts, None for one a face. survey_of_queries is survey with its query points behind the vertices.
 ENTRY = {
     'volume': (10, 1, 0), 'centroid': (11, 3, 0), 'geometric_centroid': (12, 3, 0), 'bounds': (13, 6, 0), 'scale': (14, 1, 0),
-    'plane_of_face': (19, 4, 0), 'closed': (20, 0, 1), 'contains': (21, 0, 1), 'point_in_phed': (22, 0, 1),
-    'is_convex': (23, 0, 1), 'describe': (24, 0, 4), 'check_cut': (25, 0, 1), 'survey': (30, 1, 4), 'survey_of_queries': (31, 1, 4),
+    'closed': (20, 0, 1), 'contains': (21, 0, 1), 'point_in_phed': (22, 0, 1),
+    'is_convex': (23, 0, 1), 'describe': (24, 0, 4), 'check_cut': (25, 0, 1), 'no_area_faces': (26, 0, None),
+    'survey': (30, 1, 4), 'survey_of_queries': (31, 1, 4), 'plane_of_face': (32, 4, 1),
     'newell_normal': (40, 3, 0), 'vertex_centroid': (41, 3, 0), 'list_bounds': (42, 6, 0), 'signed_area2': (43, 1, 0),
     'vertex_centroid2': (44, 2, 0), 'bounds2': (45, 4, 0), 'tet_volume': (50, 1, 0), 'wedge_volume': (51, 1, 0),
     'hex_volume': (52, 1, 0), 'tet_contains': (53, 0, 1), 'wedge_contains': (54, 0, 1), 'hex_contains': (55, 0, 1),
@@ -23,10 +24,10 @@ ENTRY = {
     'segment_intersection': (75, 2, 0), 'segment_plane_intersection': (76, 3, 0), 'into_ccw': (80, 0, 0),
     'turn_faces': (81, 0, 1), 'into_ccw2': (82, 0, 0), 'to_local': (83, 3, 0), 'triangles': (90, 0, 2),
     'triangle_places': (91, 0, 2), 'clip_face': (100, 0, 2),
-    'clip_convex': (101, 0, 2), 'convex_intersection_area': (102, 1, 0), 'convex_intersection_volume': (103, 1, 0)}
+    'clip_convex': (101, 0, 2), 'convex_intersection_area': (102, 1, 0), 'convex_intersection_volume': (103, 1, 2)}
 
 # The entries that measure a cell and take nothing else.
-MEASURES = [name for name, (k, *_) in ENTRY.items() if 10 <= k < 19]
+MEASURES = [name for name, (k, *_) in ENTRY.items() if 10 <= k < 20]
 
 # Rust leaves the sign of a least or greatest zero open: there a zero of either sign is the same, and is stored as +0.
 ZEROS = ('bounds', 'scale', 'list_bounds', 'bounds2')
@@ -150,17 +151,21 @@ class Case:
         self.questions, self.lines = [], []
         self.short = (0, 0)
 
-    def places(self, entry):
-        """How long the lists for numbers and counts are: one place more than the answer, less what is asked for."""
-        return [max(n + 1 - short, 0) if n else 0 for n, short in zip(ENTRY[entry][1:], self.short)]
+    def sizes(self, entry):
+        """The most numbers and counts of an answer."""
+        return [len(self.cell[2]) if n is None else n for n in ENTRY[entry][1:]]
 
-    def refused(self, entry, why):
-        """The refusal, or 6 where a list is too short for the answer."""
-        return why or (6 if any(n > places for n, places in zip(ENTRY[entry][1:], self.places(entry))) else 0)
+    def places(self, entry):
+        """How long the lists for numbers and counts are: one place more than the most of an answer, less what is asked for."""
+        return [max(n + 1 - short, 0) if n else 0 for n, short in zip(self.sizes(entry), self.short)]
+
+    def refused(self, entry, why, sizes=None):
+        """The refusal, or 6 where a list is too short for an answer of these sizes, which are the most where they are not given."""
+        return why or (6 if any(n > places for n, places in zip(sizes or self.sizes(entry), self.places(entry))) else 0)
 
     def in_short_lists(self, entry, ask):
         """Asks with every shorter length of the two lists, from those that have no place to spare to those that have none."""
-        for short in itertools.product(*(range(n + 2 if n else 1) for n in ENTRY[entry][1:])):
+        for short in itertools.product(*(range(n + 2 if n else 1) for n in self.sizes(entry))):
             self.short = short
             if any(short):
                 ask()
@@ -168,7 +173,7 @@ class Case:
 
     def put(self, entry, arguments, why, values=(), counts=(), shown='', lent=None, code=0):
         """A question and its answer. `lent` has every number of each other list after the call; a leaf returns `code`."""
-        why, number, lists = self.refused(entry, why), ENTRY[entry][0], {}
+        why, number, lists = self.refused(entry, why, (len(values), len(counts))), ENTRY[entry][0], {}
         for kind, answer, places, mark in zip(('numbers', 'counts'), (values, counts), self.places(entry), (FILLER, MARK)):
             lists[kind] = after(() if why else answer, places, mark)
         if entry in ZEROS:

@@ -1,6 +1,7 @@
 """Questions about a cell or a list of points."""
 import math
 
+import areas
 from asking import Case, MARK, MEASURES, SHAPES, after, bits, cell_words, flat, hexes, in_parts, points, read_points, whole
 from cells import CUBE, HEX8, SEVEN, TETRA, box, cell_of, damage, prism, queries, torn
 from sides import closed, turned
@@ -114,10 +115,20 @@ class CellCase(Case):
         self.put('turn_faces', [], why, counts=[count], lent={'corners': corners})
 
     def plane(self, face):
+        """The plane and 1, or 0 alone where the face has no area."""
         why = faces_refusal(self.cell, face)
-        words = '' if why else f'{points(self.cell[0])} {whole(faces(self.cell)[face])}'
-        got = [] if why else self.oracle.patterns('plane_of_face', words, 'ruled')
-        self.put('plane_of_face', [face], why, got, shown=f' face {face}')
+        got = ([], []) if why else self.plane_or_none(faces(self.cell)[face])
+        self.put('plane_of_face', [face], why, *got, f' face {face}')
+
+    def plane_or_none(self, face):
+        if areas.has_none(self.oracle, self.cell[0], face):
+            return [], [0]
+        return self.oracle.patterns('plane_of_face', f'{points(self.cell[0])} {whole(face)}', 'ruled'), [1]
+
+    def no_area_faces(self):
+        """Which faces have no area."""
+        why = faces_refusal(self.cell)
+        self.put('no_area_faces', [], why, counts=[] if why else areas.flags(self.oracle, self.cell))
 
     def all(self, ps):
         for entry in MEASURES:
@@ -135,6 +146,7 @@ class CellCase(Case):
         self.shape()
         self.turning()
         self.turn_faces()
+        self.no_area_faces()
         for k in self.faces_asked():
             self.plane(k)
 
@@ -144,7 +156,8 @@ class CellCase(Case):
             self.in_short_lists(entry, lambda entry=entry: self.measure(entry))
         for entry, ask in (('closed', self.is_closed), ('contains', lambda: self.contains(p)), ('describe', lambda: self.shape((2, 255))),
                            ('turn_faces', self.turn_faces), ('triangles', lambda: self.triangles(0)), ('survey', lambda: self.survey(p)),
-                           ('plane_of_face', lambda: self.plane(0)), ('point_in_phed', lambda: self.in_phed(p))):
+                           ('plane_of_face', lambda: self.plane(0)), ('no_area_faces', self.no_area_faces),
+                           ('point_in_phed', lambda: self.in_phed(p))):
             self.in_short_lists(entry, ask)
         for entry in ('newell_normal', 'vertex_centroid', 'list_bounds'):
             self.in_short_lists(entry, lambda entry=entry: self.list_of_points(entry, list_refusal(self.cell[0]), 3))
@@ -329,6 +342,7 @@ def limits(oracle):
         c.turning()
         c.turn_faces()
         c.plane(0)
+        c.no_area_faces()
         out.append(c)
     room = CellCase(oracle, 'room', cube, 'a face number past the last is refused 4, a list of too few places 6')
     for face, places in ((0, 0), (0, 1), (0, 2), (5, 1), (6, 0), (6, 9), (MARK, 2)):

@@ -1,6 +1,7 @@
 """Questions with two work lists: clipping and overlaps. What follows the first part of the line's lists is the second part."""
 import math
 
+import areas
 import clipping
 from asking import Case, FILLER, MARK, bits, flat, in_parts, points
 from cells import CUBE, HEX8, TETRA, box, cell_of, damage, hull, near_box, prism, shifted, torn, turned, turned_box, turned_prism
@@ -76,12 +77,13 @@ class PairCase(ClipCase):
 
     def overlap(self, lengths=None, room=0):
         why = overlap_refusal(self.first, self.second, lengths or (0, 0))
-        volume, most = (0.0, 0) if why else clipping.overlap(self.oracle, self.first, self.second)
-        lengths = lengths or room_for(most + room, 3)
-        why = why or (6 if most > min(lengths) // 3 else 0)
+        volume, self.most = (0.0, 0) if why else clipping.overlap(self.oracle, self.first, self.second)
+        lengths = lengths or room_for(self.most + room, 3)
+        why = why or (6 if self.most > min(lengths) // 3 else 0)
         sizes = [len(part) for part in self.first]
         shown = ' of the first {} numbers, {} corners, {} ends with the rest'.format(*sizes)
-        self.put_work('convex_intersection_volume', sizes, lengths, why, shown, [bits(volume)])
+        counts = [] if why else [sum(areas.flags(self.oracle, cell)) for cell in (self.first, self.second)]
+        self.put_work('convex_intersection_volume', sizes, lengths, why, shown, [bits(volume)], counts)
 
 
 def made(out, case):
@@ -281,7 +283,9 @@ def short_lists(oracle):
             c.short = short
             for lengths in ((16, 17), (4, 9)):
                 c.ask(lengths)
-    for name, other in (('short_overlap', CUBE_CELL), ('short_overlap_number', ([math.inf, *CUBE_CELL[0][1:]], *CUBE_CELL[1:]))):
+    flat = cell_of(CUBE, [*HEX8, [0, 2, 1, 3]])
+    for name, other in (('short_overlap', CUBE_CELL), ('short_overlap_number', ([math.inf, *CUBE_CELL[0][1:]], *CUBE_CELL[1:])),
+                        ('short_overlap_no_area', flat), ('short_overlap_miss', cell_of(shifted(CUBE, (2, 0, 0)), [[1, 6], *HEX8]))):
         c = made(out, PairCase(oracle, name, CUBE_CELL, other))
         for lengths in ((12, 13), (9, 12)):
             c.in_short_lists('convex_intersection_volume', lambda lengths=lengths: c.overlap(lengths))

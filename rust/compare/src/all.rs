@@ -3,11 +3,11 @@
 use crate::calls::Calls;
 use crate::comparison::Comparison;
 use crate::{
-    Outcome, check_cut, clip, compare_cells, count_and_seed, cut, floats, leaves, local, overlap,
-    shapes, short, turn_faces, turning,
+    Outcome, check_cut, clip, compare_cells, count_and_seed, cut, floats, leaves, local, no_area,
+    overlap, shapes, short, turn_faces, turning,
 };
 
-pub const COMPARISONS: [Comparison; 12] = [
+pub const COMPARISONS: [Comparison; 13] = [
     Comparison {
         name: "floats",
         what: "the leaves on f64 against the machine, hypot against its rule, over N random patterns and others",
@@ -52,7 +52,7 @@ pub const COMPARISONS: [Comparison; 12] = [
     },
     Comparison {
         name: "turning",
-        what: "N random cells, and damaged copies: descriptions, convexity, outward faces, planes",
+        what: "N random cells, and damaged copies: descriptions, convexity, outward faces, planes, faces of no area",
         count: 200_000,
         compare: turning::compare,
     },
@@ -79,6 +79,12 @@ pub const COMPARISONS: [Comparison; 12] = [
         what: "N random pairs of cells, and the unmodified Rust beside",
         count: 300_000,
         compare: overlap::compare,
+    },
+    Comparison {
+        name: "no_area",
+        what: "N random pairs of cells with faces of no area or hardly any: planes, flags, overlaps with counts",
+        count: 300_000,
+        compare: no_area::compare,
     },
 ];
 

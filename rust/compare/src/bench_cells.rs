@@ -111,6 +111,7 @@ pub fn add_rows(table: &mut Table) {
     add_turning(table);
     add_backward(table);
     add_planes(table);
+    add_no_area(table);
     add_cuts(table);
     add_checks(table);
     add_shapes(table);
@@ -208,14 +209,38 @@ fn add_backward(table: &mut Table) {
 
 /// The port checks the whole cell for the plane of one face; the Rust looks at the face alone.
 fn add_planes(table: &mut Table) {
-    let mut out = [0.0; 4];
+    let (mut out, mut area) = ([0.0; 4], [0]);
     for cell in &all_cells() {
         let face = cells::as_usize(&cell.faces()[0]);
         table.add_sized(
             "plane_of_face",
             cell.corners.len(),
-            || ours::plane_of_face(black_box(cell), 0, &mut out),
+            || ours::plane_of_face(black_box(cell), 0, &mut out, &mut area),
             || rust::plane_of_face(black_box(cell.points()), &face),
+        );
+    }
+}
+
+/// The Rust does not tell which faces have no area: its column is its own sums of every face, held to 0.
+fn add_no_area(table: &mut Table) {
+    for cell in &all_cells() {
+        let faces: Vec<Vec<usize>> = cell
+            .faces()
+            .iter()
+            .map(|face| cells::as_usize(face))
+            .collect();
+        let mut out = vec![0; faces.len()];
+        let mut by_rust = out.clone();
+        table.add_sized(
+            "no_area_faces",
+            cell.corners.len(),
+            || ours::no_area_faces(black_box(cell), &mut out),
+            || {
+                for (face, flag) in faces.iter().zip(&mut by_rust) {
+                    let (sums, _) = rust::face_plane(black_box(cell.points()), face);
+                    *flag = usize::from(sums == [0.0; 3]);
+                }
+            },
         );
     }
 }

@@ -49,11 +49,17 @@ pub fn add_rows(table: &mut Table) {
     add_pairs!(table, clip_convex, [0; 2]);
     add_pairs!(table, convex_intersection_area, [0.0]);
     for cell in &all_cells() {
-        add_overlap(table, "convex_intersection_volume", cell);
+        add_overlap(table, "convex_intersection_volume", cell, &moved(cell));
     }
     // The plane of a face along an axis takes no root, and that of any other face takes one or two.
     let tilted = cells::rotated(cells::unit_cube(), &mut Random::new(1));
-    add_overlap(table, "convex_intersection_volume, tilted", &tilted);
+    let row = "convex_intersection_volume, tilted";
+    add_overlap(table, row, &tilted, &moved(&tilted));
+    // Where the boxes miss, the Rust is done, and the port counts the faces that have no area.
+    for cell in &all_cells() {
+        let apart = cell.clone().moved([9.0, 0.0, 0.0]);
+        add_overlap(table, "convex_intersection_volume, miss", cell, &apart);
+    }
 }
 
 /// A face in the middle of a cell, which is moved so that some of its planes cut something off.
@@ -76,32 +82,33 @@ fn add_face(table: &mut Table, cell: &Cell, size: usize) {
     );
 }
 
-/// A cell and itself moved by a part of its size.
-fn add_overlap(table: &mut Table, entry: &'static str, cell: &Cell) {
-    let other = moved(cell);
-    let [mut first, mut second] = work_lists(3, retold::overlap(cell, &other).most);
+/// A cell and itself moved.
+fn add_overlap(table: &mut Table, entry: &'static str, cell: &Cell, other: &Cell) {
+    let [mut first, mut second] = work_lists(3, retold::overlap(cell, other).most);
     let own_forms =
         |cells: [&Cell; 2]| cells.map(|cell| rust::polyhedron(cell.for_the_rust(), Shape::Convex));
-    let by_rust = own_forms([cell, &other]);
-    let mut out = [0.0];
+    let by_rust = own_forms([cell, other]);
+    let (mut out, mut counts) = ([0.0], [0; 2]);
     table.add_cell(
         entry,
         cell.corners.len(),
         || {
-            let (cell, other) = black_box((cell, &other));
-            ours::convex_intersection_volume(cell, other, &mut first, &mut second, &mut out)
+            let (cell, other) = black_box((cell, other));
+            let (first, second) = (&mut first, &mut second);
+            ours::convex_intersection_volume(cell, other, first, second, &mut out, &mut counts)
         },
         || {
             let [cell, other] = black_box(&by_rust);
             cell.convex_intersection_volume(other)
         },
         || {
-            let [cell, other] = own_forms(black_box([cell, &other]));
+            let [cell, other] = own_forms(black_box([cell, other]));
             cell.convex_intersection_volume(&other)
         },
     );
 }
 
+/// By a part of its size.
 fn moved(cell: &Cell) -> Cell {
     cell.clone().moved([0.3, 0.4, 0.2])
 }

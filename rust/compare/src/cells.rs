@@ -104,6 +104,18 @@ impl Cell {
         oracle::ruled::plane_of_face(self.points(), &as_usize(face))
     }
 
+    /// Whether a face has no area: whether its three Newell sums, as the Rust computes them, are all 0.
+    pub fn has_no_area(&self, face: &[u32]) -> bool {
+        let (sums, _) = oracle::ruled::face_plane(self.points(), &as_usize(face));
+        sums.iter().all(|&sum| sum == 0.0)
+    }
+
+    /// How many faces have none. None may be empty.
+    pub fn count_of_no_area(&self) -> usize {
+        let faces = self.faces();
+        faces.iter().filter(|face| self.has_no_area(face)).count()
+    }
+
     /// The same cell in the oracle's form. The coordinates must be in threes.
     pub fn for_the_rust(&self) -> oracle::Cell<'_> {
         oracle::Cell::flat(&self.coords, &self.corners, &self.ends)

@@ -19,16 +19,19 @@ const CLIP_FACE: Entry = Entry {
     name: "clip_face",
     dimension: 3,
     values: 2,
+    counts: 0,
 };
 const CLIP_CONVEX: Entry = Entry {
     name: "clip_convex",
     dimension: 2,
     values: 2,
+    counts: 0,
 };
 const AREA: Entry = Entry {
     name: "convex_intersection_area",
     dimension: 2,
     values: 1,
+    counts: 0,
 };
 
 /// Clips random faces and as many outlines of the plane, shrunk copies of every eighth face, and damaged
@@ -164,6 +167,7 @@ fn shown<const D: usize>(told: Clipped<D>) -> Work<usize> {
     Work {
         most: told.most,
         values: vec![told.left.len(), list],
+        counts: Vec::new(),
         shown: told.left.into_flattened(),
         shown_in: list,
     }
@@ -173,6 +177,7 @@ fn area(told: &Clipped<2>) -> Work<f64> {
     Work {
         most: told.most,
         values: vec![rust::signed_area2(&told.left).abs()],
+        counts: Vec::new(),
         shown: Vec::new(),
         shown_in: 0,
     }

@@ -29,6 +29,8 @@ mod local_judge;
 mod local_lists;
 mod marked;
 mod most_tests;
+mod no_area;
+mod no_area_cells;
 mod ours;
 mod outlines;
 mod overlap;

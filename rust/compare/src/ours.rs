@@ -139,7 +139,8 @@ entries! {
 
 // Planes, clipping and overlaps. Where two work lists pass, they come before what is answered.
 entries! {
-    plane_of_face(cell: Cell, face: u32, out: &mut [f64]);
+    plane_of_face(cell: Cell, face: u32, out: &mut [f64], area: &mut [usize]);
+    no_area_faces(cell: Cell, out: &mut [usize]);
     clip_face(
         cell: Cell, face: u32, planes: &[f64], eps: f64,
         first: &mut [f64], second: &mut [f64], shown: &mut [usize]
@@ -154,7 +155,7 @@ entries! {
     );
     convex_intersection_volume(
         cell: Cell, other: Cell,
-        first: &mut [f64], second: &mut [f64], out: &mut [f64]
+        first: &mut [f64], second: &mut [f64], out: &mut [f64], no_area: &mut [usize]
     );
 }
 

@@ -1,5 +1,5 @@
-//! `compare overlap`: the volume that two cells share, by the port and by the Rust; and what the
-//! unmodified Rust says of the same pairs.
+//! `compare overlap`: the volume that two cells share, and how many faces of each have no area, by the
+//! port and by the Rust; and what the unmodified Rust says of the same pairs.
 
 use crate::beside::Beside;
 use crate::calls::{Calls, Given};
@@ -11,10 +11,11 @@ use crate::retold::{self, Overlap};
 use crate::work::{Choice, Entry, Expected, Work, beside_the_limit};
 use crate::{ours, refusals};
 
-const VOLUME: Entry = Entry {
+pub const VOLUME: Entry = Entry {
     name: "convex_intersection_volume",
     dimension: 3,
     values: 1,
+    counts: 2,
 };
 
 /// Asks about random pairs of cells, and about damaged copies of every fourth.
@@ -46,9 +47,15 @@ pub fn of_two(
 ) -> impl FnMut(&mut Calls, &[Cell; 2], &mut Random) {
     move |calls, cells, random| {
         let expected = expected(cells, calls, &mut by_the_rust);
-        VOLUME.ask(calls, &expected, choice, random, |first, second, out| {
-            ours::convex_intersection_volume(&cells[0], &cells[1], first, second, out)
-        });
+        VOLUME.ask_for_counts(
+            calls,
+            &expected,
+            choice,
+            random,
+            |first, second, out, counts| {
+                ours::convex_intersection_volume(&cells[0], &cells[1], first, second, out, counts)
+            },
+        );
     }
 }
 
@@ -59,7 +66,7 @@ pub fn by_the_ruled(cells: &[Cell; 2]) -> f64 {
 }
 
 /// A pair of which one cell or both are damaged.
-fn damaged(cells: [Cell; 2], random: &mut Random) -> [Cell; 2] {
+pub fn damaged(cells: [Cell; 2], random: &mut Random) -> [Cell; 2] {
     let [mut first, mut second] = cells;
     let which = random.below(3);
     if which != 0 {
@@ -72,7 +79,7 @@ fn damaged(cells: [Cell; 2], random: &mut Random) -> [Cell; 2] {
 }
 
 /// What the pair must give, told again and held to the Rust, and counted.
-fn expected(
+pub fn expected(
     cells: &[Cell; 2],
     calls: &mut Calls,
     by_the_rust: &mut impl FnMut(&[Cell; 2]) -> f64,
@@ -91,6 +98,7 @@ fn expected(
     Ok(Work {
         most: told.most,
         values: vec![told.volume],
+        counts: cells.each_ref().map(Cell::count_of_no_area).to_vec(),
         shown: Vec::new(),
         shown_in: 0,
     })
@@ -137,15 +145,22 @@ mod tests {
         let small = smallest_of(any, |calls, cells, random| {
             let expected = expected(cells, calls, &mut by_the_ruled);
             let choice = beside_the_limit;
-            VOLUME.ask(calls, &expected, choice, random, |first, second, out| {
-                let before = first.to_vec();
-                let [one, two] = cells;
-                let answer = ours::convex_intersection_volume(one, two, first, second, out);
-                if answer == 0 && out[0] == 0.0 {
-                    first.copy_from_slice(&before);
-                }
-                answer
-            });
+            VOLUME.ask_for_counts(
+                calls,
+                &expected,
+                choice,
+                random,
+                |first, second, out, counts| {
+                    let before = first.to_vec();
+                    let [one, two] = cells;
+                    let answer =
+                        ours::convex_intersection_volume(one, two, first, second, out, counts);
+                    if answer == 0 && out[0] == 0.0 {
+                        first.copy_from_slice(&before);
+                    }
+                    answer
+                },
+            );
         });
         for cell in small {
             assert_eq!(cell.coords, [0.0; 3]);
@@ -159,9 +174,17 @@ mod tests {
         let small = smallest_of(any, |calls, cells, random| {
             let expected = expected(cells, calls, &mut by_the_ruled);
             let choice = beside_the_limit;
-            VOLUME.ask(calls, &expected, choice, random, |first, second, out| {
-                ours::convex_intersection_volume(&cells[0], &cells[0], first, second, out)
-            });
+            VOLUME.ask_for_counts(
+                calls,
+                &expected,
+                choice,
+                random,
+                |first, second, out, counts| {
+                    ours::convex_intersection_volume(
+                        &cells[0], &cells[0], first, second, out, counts,
+                    )
+                },
+            );
         });
         let corners = small.iter().map(|cell| cell.corners.len());
         assert!(corners.sum::<usize>() <= 24);

@@ -153,7 +153,8 @@ pub fn overlap(first: &Cell, second: &Cell) -> Overlap {
     overlap
 }
 
-fn boxes_meet(first: &Cell, second: &Cell) -> bool {
+/// Whether the boxes of two cells have a point in common.
+pub fn boxes_meet(first: &Cell, second: &Cell) -> bool {
     let ([low, high], [other_low, other_high]) = (first.bounds(), second.bounds());
     (0..3).all(|axis| high[axis] >= other_low[axis] && other_high[axis] >= low[axis])
 }

@@ -22,7 +22,7 @@ use crate::random::Random;
 use crate::shapes::{FORMS, Solid, of_form};
 use crate::turn_faces::ask_about;
 use crate::turn_judge::holds_a_vertex_twice;
-use crate::turning::compare_cell;
+use crate::turning::{compare_cell, plane_in_every_length};
 use crate::work::{beside_the_limit, every_short};
 
 /// Numbers inside the domain, at its limit, and outside.
@@ -73,6 +73,7 @@ pub fn compare(calls: &mut Calls, times: u64, seed: u64) -> Compared {
         planes_of_any_length,
         outlines_by_edges,
         pairs_of_cells,
+        lists_for_planes,
     ];
     for _ in 0..times {
         for part in parts {
@@ -505,6 +506,24 @@ fn pairs_of_cells(calls: &mut Calls, random: &mut Random) -> Compared {
         .collect();
     for cells in pairs_of(&faces) {
         beside(calls, &cells, random)?;
+    }
+    Ok(())
+}
+
+/// Lists of every length for the plane of a face, and of one that is not there: faces of up to four
+/// corners of a tetrahedron, with a vertex that is not there as well, and of a tetrahedron so small that
+/// the inverse of a norm overflows.
+fn lists_for_planes(calls: &mut Calls, random: &mut Random) -> Compared {
+    let tiny = CORNER.map(|point| point.map(|value| value * 0.5_f64.powi(512)));
+    for points in [CORNER, tiny] {
+        for corners in lists_up_to(4, &[0, 1, 2, 3, 4]) {
+            let cell = Cell::of_one_face(points.as_flattened(), &corners);
+            ask(calls, &cell, random, |calls, cell, _| {
+                for face in [0, 1, u32::MAX] {
+                    plane_in_every_length(calls, cell, face);
+                }
+            })?;
+        }
     }
     Ok(())
 }

@@ -1,14 +1,16 @@
-//! `compare turning`: convexity, faces turned outward and the planes of faces, by the port and by
-//! the Rust.
+//! `compare turning`: convexity, faces turned outward, the planes of faces and which faces have no
+//! area, by the port and by the Rust.
 
 use oracle::{Shape, plain as rust};
 
-use crate::calls::{Calls, departure, unless_refused};
+use crate::calls::{Calls, Expected, departure, unless_refused};
 use crate::cells::{self, Cell};
 use crate::comparison::{Compared, ask};
 use crate::random::Random;
 use crate::scale::shrink;
 use crate::{ours, refusals};
+
+const PLANE: &str = "plane_of_face";
 
 /// Asks about random cells, sound and damaged, and about shrunk copies.
 pub fn compare(calls: &mut Calls, count: u64, seed: u64) -> Compared {
@@ -30,6 +32,8 @@ pub fn compare_cell(calls: &mut Calls, cell: &Cell, random: &mut Random) {
     }
     outward(calls, cell);
     planes(calls, cell, random);
+    // The lengths of its lists come from a copy of the generator, so that later inputs stay what they were.
+    no_area(calls, cell, &mut random.clone());
 }
 
 /// What is known of the cell's shape by a number: 0, 1, or any other.
@@ -96,21 +100,81 @@ fn planes(calls: &mut Calls, cell: &Cell, random: &mut Random) {
     }
 }
 
-fn plane(calls: &mut Calls, cell: &Cell, face: u32, random: &mut Random) {
+/// The plane of one face.
+pub fn plane(calls: &mut Calls, cell: &Cell, face: u32, random: &mut Random) {
+    plane_by(calls, cell, face, random, |out, area| {
+        ours::plane_of_face(cell, face, out, area)
+    });
+}
+
+/// Holds a call to what the plane of a face must be.
+pub fn plane_by(
+    calls: &mut Calls,
+    cell: &Cell,
+    face: u32,
+    random: &mut Random,
+    call: impl FnMut(&mut [f64], &mut [usize]) -> u8,
+) {
+    let expected = told_plane(calls, cell, face);
+    let parts = expected.as_ref().map_or(4, |(parts, _)| parts.len());
+    calls.asked_for_two(PLANE, [parts, 1], expected, random, call);
+}
+
+/// The same with every length of both lists up to one place to spare.
+pub fn plane_in_every_length(calls: &mut Calls, cell: &Cell, face: u32) {
+    let told = told_plane(calls, cell, face);
+    let lengths = (0..=5).flat_map(|parts| [0, 1, 2].map(|area| [parts, area]));
+    for places in lengths {
+        let fits = |(parts, area): &Told| parts.len() <= places[0] && area.len() <= places[1];
+        let expected = told
+            .clone()
+            .and_then(|told| if fits(&told) { Ok(told) } else { Err(6) });
+        calls.lent_two(PLANE, places, &expected, &mut |out, area| {
+            ours::plane_of_face(cell, face, out, area)
+        });
+    }
+}
+
+/// What a plane is told as: its four parts and 1, or no part and 0 where the face has no area.
+type Told = (Vec<f64>, Vec<usize>);
+
+/// What the plane of a face must be. Where the face has no area the Rust has a plane of nothing but NaN,
+/// which is read so.
+fn told_plane(calls: &mut Calls, cell: &Cell, face: u32) -> Result<Told, u8> {
     let refusal = refusals::of_face(cell, face).or_else(|| refusals::of_cell(cell, true));
-    let expected = unless_refused(refusal, || {
-        let plane = cell.plane(cell.face(face));
+    unless_refused(refusal, || {
+        let corners = cell.face(face);
+        let plane = cell.plane(corners);
+        if cell.has_no_area(corners) {
+            let all_nan = plane.iter().all(|part| part.is_nan());
+            calls.expect(all_nan, PLANE, "has a number in the Rust, and no area");
+            calls.count("planes", Parts::NoArea);
+            return (Vec::new(), vec![0]);
+        }
         calls.count("planes", Parts::of(plane));
-        plane.to_vec()
+        (plane.to_vec(), vec![1])
+    })
+}
+
+/// Which faces have no area.
+pub fn no_area(calls: &mut Calls, cell: &Cell, random: &mut Random) {
+    let expected = told_no_area(cell);
+    calls.asked("no_area_faces", cell.ends.len(), expected, random, |out| {
+        ours::no_area_faces(cell, out)
     });
-    calls.asked("plane_of_face", 4, expected, random, |out| {
-        ours::plane_of_face(cell, face, out)
-    });
+}
+
+/// The flags of all faces, or the refusal.
+pub fn told_no_area(cell: &Cell) -> Expected<usize> {
+    let faces = 0..cell.ends.len() as u32;
+    let flag = |face: u32| usize::from(cell.has_no_area(cell.face(face)));
+    unless_refused(refusals::of_cell(cell, true), || faces.map(flag).collect())
 }
 
 /// What the parts of a plane are, for the counts.
 #[derive(Debug)]
 enum Parts {
+    NoArea,
     Finite,
     SomeInfinite,
     SomeNan,

@@ -18,6 +18,8 @@ pub struct Entry {
     pub dimension: usize,
     /// Values that it answers.
     pub values: usize,
+    /// Counts that it answers beside them, in a list of their own.
+    pub counts: usize,
 }
 
 /// What an entry must do when it is not refused 1 to 5.
@@ -25,6 +27,7 @@ pub struct Work<T> {
     /// The most points that a work list must hold; fewer are refusal 6.
     pub most: usize,
     pub values: Vec<T>,
+    pub counts: Vec<usize>,
     /// The numbers of the outline that is shown, in the first list (0) or in the second (1).
     pub shown: Vec<f64>,
     pub shown_in: usize,
@@ -33,18 +36,20 @@ pub struct Work<T> {
 /// A refusal 1 to 5 that the inputs meet, or the work.
 pub type Expected<T> = Result<Work<T>, u8>;
 
-/// How long the lists are that a call is lent: the two work lists, and the places for its values.
+/// How long the lists are that a call is lent: the two work lists, the places for its values, and
+/// those for its counts.
 #[derive(Clone, Copy)]
 pub struct Lengths {
     work: [usize; 2],
     places: usize,
+    counts: usize,
 }
 
 /// A way to choose lists for an entry and an input that needs so many numbers in each work list.
 pub type Choice = fn(&Entry, usize, &mut Random) -> Vec<Lengths>;
 
 impl Entry {
-    /// Asks with each of the chosen lists.
+    /// Asks an entry that answers no counts, with each of the chosen lists.
     pub fn ask<T: Lent>(
         &self,
         calls: &mut Calls,
@@ -52,6 +57,20 @@ impl Entry {
         choice: Choice,
         random: &mut Random,
         mut call: impl FnMut(&mut [f64], &mut [f64], &mut [T]) -> u8,
+    ) {
+        self.ask_for_counts(calls, expected, choice, random, |first, second, out, _| {
+            call(first, second, out)
+        });
+    }
+
+    /// The same for one that answers counts as well, in the last list.
+    pub fn ask_for_counts<T: Lent>(
+        &self,
+        calls: &mut Calls,
+        expected: &Expected<T>,
+        choice: Choice,
+        random: &mut Random,
+        mut call: impl FnMut(&mut [f64], &mut [f64], &mut [T], &mut [usize]) -> u8,
     ) {
         let most = expected.as_ref().map_or(0, |work| work.most);
         for lengths in choice(self, most * self.dimension, &mut random.fork()) {
@@ -63,49 +82,55 @@ impl Entry {
         &self,
         calls: &mut Calls,
         expected: &Expected<T>,
-        Lengths { work, places }: Lengths,
-        call: &mut impl FnMut(&mut [f64], &mut [f64], &mut [T]) -> u8,
+        lengths: Lengths,
+        call: &mut impl FnMut(&mut [f64], &mut [f64], &mut [T], &mut [usize]) -> u8,
     ) {
+        let Lengths {
+            work,
+            places,
+            counts: for_counts,
+        } = lengths;
         let [mut first, mut second] = work.map(|length| marked(length + BEYOND));
-        let mut out = vec![T::MARK; places + BEYOND];
+        let mut out = with_front(&[], places);
+        let mut counts = with_front(&[], for_counts);
         let answer = call(
             &mut first[..work[0]],
             &mut second[..work[1]],
             &mut out[..places],
+            &mut counts[..for_counts],
         );
 
-        let end = self.end(expected, work, places);
-        let mut values = vec![T::MARK; places + BEYOND];
-        values[..end.values.len()].copy_from_slice(end.values);
-        let departure = departure("out", &out, &values)
+        let end = self.end(expected, lengths);
+        let departure = departure("out", &out, &with_front(end.values, places))
+            .or_else(|| departure("counts", &counts, &with_front(end.counts, for_counts)))
             .or_else(|| departure("first", &first, &end.stands.list(0, work[0])))
             .or_else(|| departure("second", &second, &end.stands.list(1, work[1])));
-        let lent = [work[0], work[1], places];
-        calls.held(self.name, &lent, answer, end.answer, departure);
+        let lent = [work[0], work[1], places, for_counts];
+        let lists = if self.counts == 0 { 3 } else { 4 };
+        calls.held(self.name, &lent[..lists], answer, end.answer, departure);
     }
 
-    /// How a call must end with work lists of these lengths and so many places for its values.
-    fn end<'a, T>(
-        &self,
-        expected: &'a Expected<T>,
-        lengths: [usize; 2],
-        places: usize,
-    ) -> End<'a, T> {
+    /// How a call must end with lists of these lengths.
+    fn end<'a, T>(&self, expected: &'a Expected<T>, lengths: Lengths) -> End<'a, T> {
         let refused = |answer, stands| End {
             answer,
             values: &[],
+            counts: &[],
             stands,
         };
-        if let Some(number) = refusals::of_work(lengths) {
+        let [first, second] = lengths.work;
+        if let Some(number) = refusals::of_work(lengths.work) {
             return refused(number, Stands::AsBefore);
         }
-        let room = lengths[0].min(lengths[1]) / self.dimension;
+        let room = first.min(second) / self.dimension;
+        let too_few = lengths.places < self.values || lengths.counts < self.counts;
         match expected {
             Err(number) => refused(*number, Stands::AsBefore),
-            Ok(work) if room < work.most || places < self.values => refused(6, Stands::Zeros),
+            Ok(work) if room < work.most || too_few => refused(6, Stands::Zeros),
             Ok(work) => End {
                 answer: 0,
                 values: &work.values,
+                counts: &work.counts,
                 stands: Stands::Shown(work.shown_in, &work.shown),
             },
         }
@@ -116,7 +141,15 @@ impl Entry {
 struct End<'a, T> {
     answer: u8,
     values: &'a [T],
+    counts: &'a [usize],
     stands: Stands<'a>,
+}
+
+/// A list of so many places, and some beyond, with marks behind the values at its front.
+fn with_front<T: Lent>(values: &[T], places: usize) -> Vec<T> {
+    let mut list = vec![T::MARK; places + BEYOND];
+    list[..values.len()].copy_from_slice(values);
+    list
 }
 
 enum Stands<'a> {
@@ -154,31 +187,41 @@ fn marked(length: usize) -> Vec<f64> {
 }
 
 /// Some random lists, most of them beside the limit of room, and now and then with too few places for
-/// the values.
+/// the values or for the counts.
 pub fn beside_the_limit(entry: &Entry, needed: usize, random: &mut Random) -> Vec<Lengths> {
     let any = |_| Lengths {
         work: any_lengths(needed, random),
-        places: match random.below(16) {
-            0 => random.below(entry.values),
-            _ => entry.values + random.below(2),
-        },
+        places: any_places(entry.values, random),
+        counts: any_places(entry.counts, random),
     };
     (0..TIMES).map(any).collect()
+}
+
+/// Mostly enough places for so many values; none where there is nothing to answer.
+fn any_places(values: usize, random: &mut Random) -> usize {
+    if values == 0 {
+        return 0;
+    }
+    match random.below(16) {
+        0 => random.below(values),
+        _ => values + random.below(2),
+    }
 }
 
 /// Work lists of all short lengths, and once with each number of places that is too few.
 pub fn every_short(entry: &Entry, _needed: usize, _random: &mut Random) -> Vec<Lengths> {
     let lengths = 0..=SHORT;
     let pairs = lengths.flat_map(|one| (0..=SHORT).map(move |two| [one, two]));
-    let enough = pairs.map(|work| Lengths {
+    let with_places = |work, places, counts| Lengths {
         work,
-        places: entry.values,
-    });
-    let too_few = (0..entry.values).map(|places| Lengths {
-        work: [SHORT; 2],
         places,
-    });
-    enough.chain(too_few).collect()
+        counts,
+    };
+    let Entry { values, counts, .. } = *entry;
+    let enough = pairs.map(|work| with_places(work, values, counts));
+    let too_few = (0..values).map(|places| with_places([SHORT; 2], places, counts));
+    let too_few_counts = (0..counts).map(|places| with_places([SHORT; 2], values, places));
+    enough.chain(too_few).chain(too_few_counts).collect()
 }
 
 /// Lengths of two work lists for a call that needs so many numbers in each.
@@ -218,6 +261,7 @@ mod tests {
         name: "test",
         dimension: 3,
         values: 1,
+        counts: 2,
     };
 
     /// What a call of the test must do: it shows one point in the second list, and needs room for two.
@@ -225,36 +269,45 @@ mod tests {
         Ok(Work {
             most: 2,
             values: vec![7],
+            counts: vec![8, 9],
             shown: vec![1.0, -0.0, f64::NAN],
             shown_in: 1,
         })
     }
 
     /// Such a call, as it should be.
-    fn right(first: &mut [f64], second: &mut [f64], out: &mut [usize]) -> u8 {
+    fn right(first: &mut [f64], second: &mut [f64], out: &mut [usize], counts: &mut [usize]) -> u8 {
         if first.len().max(second.len()) > LONGEST_WORK {
             return 1;
         }
         first.fill(0.0);
         second.fill(0.0);
-        if first.len().min(second.len()) < 6 || out.is_empty() {
+        if first.len().min(second.len()) < 6 || out.is_empty() || counts.len() < 2 {
             return 6;
         }
         second[..3].copy_from_slice(&[1.0, -0.0, f64::NAN]);
         out[0] = 7;
+        counts[..2].copy_from_slice(&[8, 9]);
         0
     }
 
-    fn is_found_right(call: impl Fn(&mut [f64], &mut [f64], &mut [usize]) -> u8) -> bool {
+    type Lists<'a> = (
+        &'a mut [f64],
+        &'a mut [f64],
+        &'a mut [usize],
+        &'a mut [usize],
+    );
+
+    fn is_found_right(call: impl Fn(Lists) -> u8) -> bool {
         let mut random = Random::new(1);
         let mut calls = Calls::default();
         for _ in 0..300 {
-            ENTRY.ask(
+            ENTRY.ask_for_counts(
                 &mut calls,
                 &expected(),
                 beside_the_limit,
                 &mut random,
-                &call,
+                |first, second, out, counts| call((first, second, out, counts)),
             );
         }
         calls.first_fault().is_none()
@@ -262,15 +315,17 @@ mod tests {
 
     #[test]
     fn a_right_call_is_found_right() {
-        assert!(is_found_right(right));
+        assert!(is_found_right(|(first, second, out, counts)| {
+            right(first, second, out, counts)
+        }));
     }
 
     #[test]
     fn a_number_over_that_is_not_cleared_is_found() {
-        assert!(!is_found_right(|first, second, out| {
+        assert!(!is_found_right(|(first, second, out, counts)| {
             let whole = first.len() - first.len() % 3;
             let kept = first[whole..].to_vec();
-            let answer = right(first, second, out);
+            let answer = right(first, second, out, counts);
             first[whole..].copy_from_slice(&kept);
             answer
         }));
@@ -278,8 +333,8 @@ mod tests {
 
     #[test]
     fn a_list_cleared_by_refusal_1_is_found() {
-        assert!(!is_found_right(|first, second, out| {
-            let answer = right(first, second, out);
+        assert!(!is_found_right(|(first, second, out, counts)| {
+            let answer = right(first, second, out, counts);
             if answer == 1 {
                 first.fill(0.0);
             }
@@ -289,10 +344,43 @@ mod tests {
 
     #[test]
     fn a_refusal_for_too_much_room_is_found() {
-        assert!(!is_found_right(|first, second, out| {
-            match right(first, second, out) {
+        assert!(!is_found_right(|(first, second, out, counts)| {
+            match right(first, second, out, counts) {
                 0 if first.len() < 7 => 6,
                 answer => answer,
+            }
+        }));
+    }
+
+    #[test]
+    fn a_wrong_count_is_found() {
+        assert!(!is_found_right(|(first, second, out, counts)| {
+            let answer = right(first, second, out, counts);
+            if answer == 0 {
+                counts[1] = 8;
+            }
+            answer
+        }));
+    }
+
+    #[test]
+    fn counts_that_are_written_on_a_refusal_are_found() {
+        assert!(!is_found_right(|(first, second, out, counts)| {
+            let answer = right(first, second, out, counts);
+            if answer == 6 {
+                counts.fill(0);
+            }
+            answer
+        }));
+    }
+
+    #[test]
+    fn counts_that_are_answered_without_room_are_found() {
+        assert!(!is_found_right(|(first, second, out, counts)| {
+            let mut ample = [0; 2];
+            match counts.len() {
+                1 => right(first, second, out, &mut ample),
+                _ => right(first, second, out, counts),
             }
         }));
     }

@@ -70,12 +70,13 @@ entries! {
     wegrusamt_is_convex is_convex(coords: f64, corners: u32, ends: u32; shape: u8; out: usize);
     wegrusamt_describe describe(coords: f64, corners: u32, ends: u32; shape: u8; out: usize);
     wegrusamt_plane_of_face plane_of_face(
-        coords: f64, corners: u32, ends: u32; face: u32; out: f64
+        coords: f64, corners: u32, ends: u32; face: u32; out: f64, area: usize
     );
+    wegrusamt_no_area_faces no_area_faces(coords: f64, corners: u32, ends: u32; ; out: usize);
     wegrusamt_convex_intersection_volume convex_intersection_volume(
         coords: f64, corners: u32, ends: u32,
         other_coords: f64, other_corners: u32, other_ends: u32; ;
-        first: f64, second: f64, out: f64
+        first: f64, second: f64, out: f64, no_area: usize
     );
 
     wegrusamt_clip_convex clip_convex(

@@ -85,6 +85,18 @@ pub struct Survey {
     pub volume: f64,
 }
 
+/// The volume that two cells share, and how many faces of each have no area: see
+/// [`Cell::no_area_faces`]. They are counted over all faces, even where the cells lie apart.
+#[derive(Clone, Copy, Debug, PartialEq)]
+pub struct Overlap {
+    /// The volume.
+    pub volume: f64,
+    /// How many faces of the cell that is asked have no area.
+    pub no_area: usize,
+    /// How many faces of the other cell have none.
+    pub no_area_other: usize,
+}
+
 /// A cell: points, corners (numbers of points) and ends. Face k has the corners from the end before
 /// it (0 for the first) up to its own end.
 ///
@@ -330,24 +342,58 @@ impl<'a> Cell<'a> {
         Refusal::answer(number, survey)
     }
 
-    /// The plane of a face. Also refused as [`Refusal::EmptyFace`] where any face has no corners.
+    /// The plane of a face, or `None` where it has no area: where its three Newell sums, as they are
+    /// computed, are all 0. Also refused as [`Refusal::EmptyFace`] where any face has no corners.
     ///
-    /// A face without area has no normal: parts of it are NaN or infinite, as SCOPE 11 says.
-    pub fn plane_of_face(&self, face: usize) -> Result<Plane, Refusal> {
+    /// A normal that only underflows in its length stays a plane; parts of it are NaN or infinite, as
+    /// SCOPE 11 says.
+    ///
+    /// ```
+    /// use wegrusamt::Cell;
+    ///
+    /// let points = [[0.0; 3], [1.0, 0.0, 0.0], [0.0, 1.0, 0.0], [2.0, 0.0, 0.0]];
+    /// let cell = Cell::new(&points, &[0, 1, 2, 0, 1, 3], &[3, 6]);
+    ///
+    /// let plane = cell.plane_of_face(0)?.expect("a triangle has a plane");
+    /// assert_eq!((plane.normal, plane.offset), ([0.0, 0.0, 1.0], 0.0));
+    /// // The corners of the second face lie on a line.
+    /// assert_eq!(cell.plane_of_face(1)?, None);
+    /// # Ok::<(), wegrusamt::Refusal>(())
+    /// ```
+    pub fn plane_of_face(&self, face: usize) -> Result<Option<Plane>, Refusal> {
         let mut out = [0.0; 4];
+        let mut area = [0];
         let number = c::plane_of_face(
             self.coords(),
             self.corners,
             self.ends,
             face_number(face),
             &mut out,
+            &mut area,
         );
         let [x, y, z, offset] = out;
         let plane = Plane {
             normal: [x, y, z],
             offset,
         };
-        Refusal::answer(number, plane)
+        Refusal::answer(number, (area[0] != 0).then_some(plane))
+    }
+
+    /// Whether each face has no area, in order: whether [`Cell::plane_of_face`] gives no plane of it.
+    /// Also refused as [`Refusal::EmptyFace`].
+    ///
+    /// ```
+    /// use wegrusamt::Cell;
+    ///
+    /// let points = [[0.0; 3], [1.0, 0.0, 0.0], [0.0, 1.0, 0.0], [2.0, 0.0, 0.0]];
+    /// let cell = Cell::new(&points, &[0, 1, 2, 0, 1, 3, 2], &[3, 6, 7]);
+    /// assert_eq!(cell.no_area_faces()?, [false, true, true]);
+    /// # Ok::<(), wegrusamt::Refusal>(())
+    /// ```
+    pub fn no_area_faces(&self) -> Result<Vec<bool>, Refusal> {
+        let mut out = vec![0; self.ends.len()];
+        let number = c::no_area_faces(self.coords(), self.corners, self.ends, &mut out);
+        Refusal::answer(number, out.iter().map(|&flag| flag != 0).collect())
     }
 
     /// What is left of a face inside all of the planes, at most 256, or `None` where nothing is. A
@@ -415,9 +461,10 @@ impl<'a> Cell<'a> {
         work::outline(number, shown, first, second)
     }
 
-    /// The volume that two cells share. Both are convex with faces turned outward; that is not
-    /// checked ([`CellBuf::into_ccw`](crate::CellBuf::into_ccw) turns them). Also refused as
-    /// [`Refusal::EmptyFace`]; this cell's refusals come before the other's.
+    /// The volume that two cells share, and how many faces of each have no area. Both are convex with
+    /// faces turned outward; that is not checked ([`CellBuf::into_ccw`](crate::CellBuf::into_ccw)
+    /// turns them). Also refused as [`Refusal::EmptyFace`]; this cell's refusals come before the
+    /// other's.
     ///
     /// The work lists are made here, as long as they may be: 1,024 points each. A call is refused
     /// as [`Refusal::Room`] only where a face, or an outline on the way, has more.
@@ -433,10 +480,11 @@ impl<'a> Cell<'a> {
     /// };
     /// let (small, large) = (corner(1.0), corner(2.0));
     /// let shared = small.as_cell().convex_intersection_volume(&large.as_cell())?;
-    /// assert!((shared - 1.0 / 6.0).abs() < 1e-15);
+    /// assert!((shared.volume - 1.0 / 6.0).abs() < 1e-15);
+    /// assert_eq!((shared.no_area, shared.no_area_other), (0, 0));
     /// # Ok::<(), wegrusamt::Refusal>(())
     /// ```
-    pub fn convex_intersection_volume(&self, other: &Cell<'_>) -> Result<f64, Refusal> {
+    pub fn convex_intersection_volume(&self, other: &Cell<'_>) -> Result<Overlap, Refusal> {
         work::with_lists(|first, second| self.convex_intersection_volume_in(other, first, second))
     }
 
@@ -448,8 +496,9 @@ impl<'a> Cell<'a> {
         other: &Cell<'_>,
         first: &mut [[f64; 3]],
         second: &mut [[f64; 3]],
-    ) -> Result<f64, Refusal> {
+    ) -> Result<Overlap, Refusal> {
         let mut out = [0.0];
+        let mut counts = [0; 2];
         let number = c::convex_intersection_volume(
             self.coords(),
             self.corners,
@@ -460,8 +509,15 @@ impl<'a> Cell<'a> {
             first.as_flattened_mut(),
             second.as_flattened_mut(),
             &mut out,
+            &mut counts,
         );
-        Refusal::answer(number, out[0])
+        let [no_area, no_area_other] = counts;
+        let overlap = Overlap {
+            volume: out[0],
+            no_area,
+            no_area_other,
+        };
+        Refusal::answer(number, overlap)
     }
 
     /// The corners of each face, as stretches of the corner list, one for each end. Where an end

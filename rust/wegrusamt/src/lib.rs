@@ -1,7 +1,8 @@
 //! Cells with flat faces, measured by functions that are proved: volume, centroids, closedness,
-//! containment, convexity, cuts of faces and the check of cuts, turning of faces, planes, clipping,
-//! overlap and the move to a local origin. Each answers what docs/SCOPE.md of Wegrusamt says, bit
-//! for bit, or refuses with a [`Refusal`]; each ends on every input and keeps nothing.
+//! containment, convexity, cuts of faces and the check of cuts, turning of faces, planes, faces of no
+//! area, clipping, overlap and the move to a local origin. Each answers what docs/SCOPE.md of
+//! Wegrusamt says, bit for bit, or refuses with a [`Refusal`]; each ends on every input and keeps
+//! nothing.
 //!
 //! ```
 //! use wegrusamt::CellBuf;
@@ -36,7 +37,7 @@ pub mod shapes;
 pub mod space;
 mod work;
 
-pub use cell::{Cell, Description, FACE_END, FaceCut, Plane, Shape, Survey};
+pub use cell::{Cell, Description, FACE_END, FaceCut, Overlap, Plane, Shape, Survey};
 pub use cell::{into_ccw, point_in_phed, turn_faces};
 pub use cell_buf::CellBuf;
 pub use cut::check_cut;

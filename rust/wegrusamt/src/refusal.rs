@@ -28,7 +28,8 @@ pub enum Refusal {
     /// 4: a corner is not below the vertex count, a face number not below the face count, or a
     /// place of a face to check not below its corner count.
     Index = 4,
-    /// 5: a face has no corners. Only planes, outward turning and intersection refuse it.
+    /// 5: a face has no corners. Only planes, faces of no area, outward turning and intersection
+    /// refuse it.
     EmptyFace = 5,
     /// 6: a list that is written to is too short. Here that can only be a work list.
     Room = 6,

@@ -1,8 +1,8 @@
 //! The rows of SCOPE 16, the turning of backward faces (SCOPE 14), the move to a local origin
-//! (SCOPE 19), the tests of a cut, cuts by place and the check of cuts, and every refusal, asked
-//! through the crate.
+//! (SCOPE 19), the tests of a cut, cuts by place and the check of cuts, faces that have no area, and
+//! every refusal, asked through the crate.
 
-use wegrusamt::{Cell, CellBuf, FACE_END, FaceCut, Plane, Refusal, Shape, WORK_NUMBERS};
+use wegrusamt::{Cell, CellBuf, FACE_END, FaceCut, Overlap, Plane, Refusal, Shape, WORK_NUMBERS};
 use wegrusamt::{check_cut, into_ccw, point_in_phed, turn_faces};
 use wegrusamt::{floats, leaves, planar, shapes, space};
 
@@ -58,6 +58,7 @@ fn refusals(cell: &Cell<'_>) -> Vec<Option<Refusal>> {
         cell.triangle_places(0).err(),
         cell.survey(&[]).err(),
         cell.plane_of_face(0).err(),
+        cell.no_area_faces().err(),
         cell.clip_face(0, &[], 0.0).err(),
         cell.convex_intersection_volume(&other.as_cell()).err(),
         other.as_cell().convex_intersection_volume(cell).err(),
@@ -76,7 +77,7 @@ fn all_refuse(cell: &Cell<'_>, refusal: Refusal) {
 fn the_cube_is_measured() {
     let buf = cube_at(0.0);
     let cube = buf.as_cell();
-    assert_eq!(refusals(&cube), [None; 17]);
+    assert_eq!(refusals(&cube), [None; 18]);
     assert_eq!(cube.volume(), Ok(1.0));
     assert_eq!(cube.centroid(), Ok([0.5; 3]));
     assert_eq!(cube.geometric_centroid(), Ok([0.5; 3]));
@@ -370,8 +371,60 @@ fn thin_faces_keep_their_direction() {
 
 #[test]
 fn a_face_has_a_plane() {
-    let plane = cube_at(0.0).as_cell().plane_of_face(4).unwrap();
+    let plane = cube_at(0.0).as_cell().plane_of_face(4).unwrap().unwrap();
     assert_eq!((plane.normal, plane.offset), ([1.0, 0.0, 0.0], 1.0));
+}
+
+/// Each face of the cell has no area or has some, as it is said, by its plane and by the flags.
+fn have_no_area(cell: &CellBuf, said: &[bool]) {
+    assert_eq!(cell.as_cell().no_area_faces().as_deref(), Ok(said));
+    for (face, &none) in said.iter().enumerate() {
+        let plane = cell.as_cell().plane_of_face(face).unwrap();
+        assert_eq!(plane.is_none(), none, "face {face}");
+    }
+}
+
+#[test]
+fn faces_have_no_area() {
+    have_no_area(&cube_at(0.0), &[false; 6]);
+    let mut points = CUBE.to_vec();
+    points.extend([[0.5, 0.0, 0.0], [0.0; 3], [0.0, 0.75, 0.0]]);
+    // One corner, two, all in one point twice, on a line, a bow-tie, a doubled corner, there and back.
+    let none: [&[u32]; 8] = [
+        &[5],
+        &[5, 6],
+        &[0, 9, 0, 9],
+        &[2, 2, 2],
+        &[0, 8, 1],
+        &[0, 2, 1, 3],
+        &[4, 6, 6],
+        &[0, 1, 2, 0, 2, 1],
+    ];
+    have_no_area(&CellBuf::from_faces(points.clone(), none), &[true; 8]);
+    // A doubled corner beside three others, a line that bends, a bow-tie whose halves differ.
+    let some: [&[u32]; 3] = [&[0, 3, 3, 2, 1], &[0, 8, 1, 4], &[0, 2, 1, 10]];
+    have_no_area(&CellBuf::from_faces(points, some), &[false; 3]);
+    have_no_area(&CellBuf::from_faces(CUBE, [[0; 0]; 0]), &[]);
+}
+
+/// A triangle so small that nothing of its normal is finite has a plane, and one whose sums vanish
+/// has none.
+#[test]
+fn a_length_that_underflows_leaves_a_plane() {
+    let corner = |reach: f64| {
+        let points = [[0.0; 3], [reach, 0.0, 0.0], [0.0, reach, 0.0]];
+        CellBuf::from_faces(points, [[0, 1, 2]])
+    };
+    for power in [-270, -511, -512, -537] {
+        have_no_area(&corner(2.0_f64.powi(power)), &[false]);
+    }
+    have_no_area(&corner(2.0_f64.powi(-538)), &[true]);
+    let plane = corner(2.0_f64.powi(-512)).as_cell().plane_of_face(0);
+    let plane = plane.unwrap().unwrap();
+    assert_eq!(plane.normal[2], f64::INFINITY);
+    assert!(plane.normal[0].is_nan() && plane.offset.is_nan());
+    let plane = corner(2.0_f64.powi(-511)).as_cell().plane_of_face(0);
+    assert_eq!(plane.unwrap().unwrap().normal, [0.0, 0.0, 1.0]);
 }
 
 #[test]
@@ -426,20 +479,62 @@ fn lent_lists_show_the_outline_and_end_as_zeros() {
     assert_eq!(first, vec![[7.0; 3]; long]);
 }
 
+/// What an overlap answers.
+fn shares(volume: f64, no_area: usize, no_area_other: usize) -> Result<Overlap, Refusal> {
+    Ok(Overlap {
+        volume,
+        no_area,
+        no_area_other,
+    })
+}
+
 #[test]
 fn cells_overlap() {
     let (here, there) = (cube_at(0.0), cube_at(0.5));
     let shared = here.as_cell().convex_intersection_volume(&there.as_cell());
-    assert_eq!(shared, Ok(0.5));
+    assert_eq!(shared, shares(0.5, 0, 0));
     let beside = cube_at(1.0);
     let shared = here.as_cell().convex_intersection_volume(&beside.as_cell());
-    assert_eq!(shared, Ok(0.0));
+    assert_eq!(shared, shares(0.0, 0, 0));
     let mut lists = ([[7.0; 3]; 2], [[7.0; 3]; 9]);
     let shared =
         here.as_cell()
             .convex_intersection_volume_in(&there.as_cell(), &mut lists.0, &mut lists.1);
     assert_eq!(shared, Err(Refusal::Room));
     assert_eq!(lists, ([[0.0; 3]; 2], [[0.0; 3]; 9]));
+}
+
+/// Faces of few corners or of one point cost the volume nothing, and are counted wherever the cells
+/// lie.
+#[test]
+fn faces_of_no_area_are_counted() {
+    let mut here = cube_at(0.0);
+    here.push_face(&[3]);
+    here.push_face(&[5, 5, 5, 5]);
+    for (x, volume) in [(0.5, 0.5), (7.0, 0.0)] {
+        let mut there = cube_at(x);
+        there.push_face(&[7, 2]);
+        let [one, two] = [here.as_cell(), there.as_cell()];
+        assert_eq!(one.convex_intersection_volume(&two), shares(volume, 2, 1));
+        assert_eq!(two.convex_intersection_volume(&one), shares(volume, 1, 2));
+    }
+    let flat = CellBuf::from_faces(CUBE, [[0, 2, 1, 3], [4, 6, 5, 7]]);
+    let apart = cube_at(7.0);
+    let shared = flat.as_cell().convex_intersection_volume(&apart.as_cell());
+    assert_eq!(shared, shares(0.0, 2, 0));
+}
+
+/// The halves of a bow-tie cancel until one of them is cut: the volume is then wrong, and the count is
+/// what tells of it.
+#[test]
+fn a_bow_tie_that_is_cut_is_told_by_the_count() {
+    let mut here = cube_at(0.0);
+    here.push_face(&[0, 2, 1, 3]);
+    let there = cube_at(0.5);
+    let shared = here.as_cell().convex_intersection_volume(&there.as_cell());
+    let shared = shared.unwrap();
+    assert_eq!((shared.no_area, shared.no_area_other), (1, 0));
+    assert!((shared.volume - 0.5 - 1.0 / 24.0).abs() < 1e-12);
 }
 
 #[test]
@@ -507,6 +602,7 @@ fn an_empty_face_is_refused_where_it_matters() {
     let whole = cube_at(0.0);
     assert_eq!(buf.as_cell().volume(), Ok(1.0));
     assert_eq!(buf.as_cell().plane_of_face(0), Err(Refusal::EmptyFace));
+    assert_eq!(buf.as_cell().no_area_faces(), Err(Refusal::EmptyFace));
     let shared = whole.as_cell().convex_intersection_volume(&buf.as_cell());
     assert_eq!(shared, Err(Refusal::EmptyFace));
     let before = buf.clone();

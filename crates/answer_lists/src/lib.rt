@@ -1,4 +1,6 @@
 // The answers of the public entries as numbers in lent lists: the values are put at the front of a list, if that has the room.
+#![tactic(auto)]
+
 pub mod given;
 pub mod shown;
 

@@ -1,4 +1,6 @@
 // A cell: its faces, and why it is refused.
+#![tactic(auto)]
+
 ghost use Rattle.std.specs.Prelude.{◌≡◌, ◌||◌, ℕ, ◌<◌, ◌≤◌, [], ◌∷◌, length, get_or, T};
 ghost use Rattle.std.proofs.Math.Seq.{slice};
 ghost use Rattle.cell.specs.Faces.{faces_of, rises};

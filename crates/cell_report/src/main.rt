@@ -1,5 +1,7 @@
 // Reads records from standard input and writes the report's lines to standard output. A read or a write that fails is said on standard
 // error.
+#![tactic(auto)]
+
 ghost use Rattle.std.specs.Prelude.{◌+◌, ◌^◌, ◌≤◌, ◌<◌, ◌≡◌, true, false, length, take};
 ghost use Rattle.records.specs.Tally.{Sized, Fits};
 ghost use Rattle.report.specs.Report.{held_of};

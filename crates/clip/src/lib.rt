@@ -1,4 +1,6 @@
 // A face clipped by planes, one after the other, from one work list into the other and back.
+#![tactic(auto)]
+
 ghost use Rattle.std.specs.Prelude.{◌≡◌, Bool, true, false, not, ◌<◌, ◌≤◌, length, take};
 ghost use Rattle.places.specs.Limits.{most_corners, most_work_numbers};
 ghost use Rattle.places.specs.Loops.{count_of};

@@ -1,5 +1,7 @@
 // One plane or one edge against an outline: from one list into another; and doubled points dropped in place.
 // The plane's and the edge's forms stand side by side.
+#![tactic(auto)]
+
 use planes::Plane;
 
 pub mod doubled;

@@ -1,5 +1,7 @@
 // Whether the faces of a cell are closed: whether each side is run as often one way as the other.
 // The sides that have the same lower end are linked in a chain, and a tally is kept along each chain: time and room go by the corners.
+#![tactic(auto)]
+
 ghost use Rattle.std.specs.Prelude.{◌≡◌, List, ℕ, ◌+◌, ◌<◌, ◌≤◌, T, length, get_or, set};
 ghost use Rattle.places.specs.Limits.{most_vertices, most_corners};
 ghost use Rattle.places.specs.Lists.{Each};

@@ -1,4 +1,6 @@
 // Cutting a face into triangles.
+#![tactic(auto)]
+
 pub mod by_place;
 
 ghost use Rattle.std.specs.Prelude.{◌≡◌, ◌-◌, ◌<◌, ◌≤◌, length, get_or, set};

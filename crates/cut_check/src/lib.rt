@@ -2,6 +2,8 @@
 // The face is taken backward beside the triangles: then each side that occurs, the face's own among them, must occur once each way.
 // The corners at the same place are linked in a chain, and stamps are written and taken off along each chain: time and room go by the
 // corners.
+#![tactic(auto)]
+
 ghost use Rattle.std.specs.Prelude.{◌≡◌, ◌↔◌, true, List, [], ◌∷◌, map, ℕ, ◌+◌, ◌*◌, ◌/◌, ◌<◌, ◌≤◌, ◌%◌, length};
 ghost use Rattle.places.specs.Lists.{Each};
 ghost use Rattle.places.specs.Limits.{most_checked_corners, most_checked_triangles};

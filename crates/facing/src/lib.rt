@@ -1,6 +1,8 @@
 // Which faces of a cell are to be reversed so that it becomes closed, and their reversal. From the lowest face of a group on,
 // each face asks its neighbours, the faces with which it shares a side: one that was not reached before is turned against it,
 // and waits in a list.
+#![tactic(auto)]
+
 ghost use Rattle.std.specs.Prelude.{◌≡◌, ◌≢◌, Bool, true, false, [], ◌∷◌, ℕ, ◌+◌, ◌*◌, ◌<◌, ◌≤◌, T, eqb, length, get_or};
 ghost use Rattle.places.specs.Limits.{most_vertices, most_faces, most_corners};
 ghost use Rattle.places.specs.Lists.{Each};

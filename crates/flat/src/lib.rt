@@ -1,4 +1,6 @@
 // Flat rules: the leaves on two and three points, and lists of points of space. The crate `outline` has lists of points of the plane.
+#![tactic(auto)]
+
 pub mod space;
 
 ghost use Rattle.std.specs.Prelude.{◌≡◌};

@@ -1,4 +1,6 @@
 // The leaves on f64: magnitude, min, max and the square root, and the bit pattern of a number.
+#![tactic(auto)]
+
 pub mod schoolbook;
 pub mod square;
 

@@ -1,4 +1,6 @@
 // hypot as IEEE 754 recommends it: the f64 nearest the exact root of the exact sum of two squares, a tie to the even one.
+#![tactic(auto)]
+
 pub mod patterns;
 pub mod quick_root;
 pub mod squares;

@@ -1,4 +1,6 @@
 // Containment: the ray along +x, a cell's faces, and faces in one list with marks.
+#![tactic(auto)]
+
 ghost use Rattle.std.specs.Prelude.{◌≡◌, ℕ, ◌+◌, ◌<◌, ◌≤◌, length, drop};
 ghost use Rattle.places.specs.Limits.{most_marked_corners};
 ghost use Rattle.flat.specs.Points.{vertices_of};

@@ -1,4 +1,6 @@
 // Text into a lent list of bytes: a number in decimal and in hex, and the report's lines.
+#![tactic(auto)]
+
 ghost use Rattle.std.specs.Prelude.{◌≡◌, ◌∷◌, [], ◌++◌, ◌+◌, ◌≤◌, ◌<◌, length};
 ghost use Rattle.lines.specs.Text.{Put, decimal_of, digit_of, yes_or_no, hex_of};
 ghost use Rattle.lines.specs.Lines.{refused_line, tail_line, counts_text, shape_text, findings_text, cell_line};

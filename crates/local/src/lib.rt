@@ -1,4 +1,6 @@
 // A cell far from the origin: its vertices moved by whole numbers, exactly, to where sums about the origin do not drown.
+#![tactic(auto)]
+
 ghost use Rattle.std.specs.Prelude.{◌≡◌, ◌%◌, ◌<◌, false, length};
 ghost use Rattle.places.specs.Stored.{joined};
 ghost use Rattle.flat.specs.Points.{vertices_of};

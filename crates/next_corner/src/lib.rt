@@ -1,4 +1,6 @@
 // The choice of the corner that is cut off next.
+#![tactic(auto)]
+
 ghost use Rattle.std.specs.Prelude.{◌≡◌, ◌<◌, ◌≤◌, length};
 ghost use Rattle.places.specs.Limits.{most_corners};
 ghost use Rattle.flat.specs.Flat.{summed_area_of};

@@ -1,4 +1,6 @@
 // Outlines: lists of points of the plane, stored in pairs: the signed area, turning counterclockwise, the vertex centroid, the bounds.
+#![tactic(auto)]
+
 ghost use Rattle.std.specs.Prelude.{◌≡◌, ℕ, ◌<◌, ◌≤◌, ◌%◌, length, get_or, set, [], reverse};
 ghost use Rattle.places.specs.Steps.{swapped, over_pairs};
 ghost use Rattle.places.specs.Stored.{in_pairs, joined};

@@ -1,4 +1,6 @@
 // Convexity of a cell, and its faces turned outward.
+#![tactic(auto)]
+
 ghost use Rattle.std.specs.Prelude.{◌≡◌, Bool, false, ◌&&◌, cond, ℕ, ◌<◌, length};
 ghost use Rattle.places.specs.Loops.{any_of};
 ghost use Rattle.flat.specs.Points.{vertices_of, vertex_of};

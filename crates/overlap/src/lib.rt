@@ -1,4 +1,6 @@
 // The overlap of two cells: each cell's faces clipped by the planes of the other, and the contributions of what is left.
+#![tactic(auto)]
+
 use planes::{Plane, PlaneOrNone};
 use work_lists::{Left, Sum};
 

@@ -1,5 +1,7 @@
 // An outline of the plane clipped by the edges of another, from one work list into the other and back;
 // and the area of what is left.
+#![tactic(auto)]
+
 ghost use Rattle.std.specs.Prelude.{◌≡◌, false, ◌<◌, ◌≤◌, length, take};
 ghost use Rattle.places.specs.Limits.{most_work_numbers};
 ghost use Rattle.places.specs.Stored.{in_pairs};

@@ -1,4 +1,6 @@
 // Planes: a unit normal and an offset, the plane of a face or that it has no area, and planes in a list.
+#![tactic(auto)]
+
 ghost use Rattle.std.specs.Prelude.{◌≡◌, [], ◌+◌, ◌*◌, ◌<◌, ◌≤◌, length, get_or, set, take, false};
 ghost use Rattle.flat.specs.Points.{vertices_of, corners_of};
 ghost use Rattle.flat.specs.Steps.{Inside};

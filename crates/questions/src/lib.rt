@@ -3,6 +3,8 @@
 // The words of a question: the entry, by the numbers of tests/vectors/asking.py; three arguments; the code, or what a leaf
 // returns; 1 where zeros of either sign are the same; then every lent list as it stands afterwards, each as how many words
 // and the words: first the numbers and the counts, then the list that is turned or moved, the triangles or the two work lists.
+#![tactic(auto)]
+
 mod cells;
 mod clips;
 mod leaves;

@@ -1,4 +1,6 @@
 // Why the public entries refuse, 0 where they do not: each check in the order of SCOPE 3.
+#![tactic(auto)]
+
 ghost use Rattle.std.specs.Prelude.{◌≡◌, ◌-◌, ◌<◌};
 ghost use Rattle.places.specs.Loops.{any_of};
 ghost use Rattle.refusals.specs.Refusals.{list_refusal, local_refusal, pairs_refused, plane_refusal, cell_refusal, contains_refusal};

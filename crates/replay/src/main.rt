@@ -1,6 +1,8 @@
 // Replays the stored answers of the Rust: reads them from standard input, asks the same through the C names, and
 // prints a line a case. tests/vectors has the list to read and how it was made. The list comes in parts of 65,536 bytes,
 // each of whole lines: empty lines fill a part up.
+#![tactic(auto)]
+
 ghost use Rattle.std.specs.Prelude.{◌≡◌, ◌≤◌, length};
 
 use std::num::wrapping_add_u64;

@@ -1,5 +1,7 @@
 // The fixed shapes: the tetrahedron, the wedge and the hexahedron. Their corners are points passed as they are, read through six fixed
 // tables. Any bits are taken, and nothing is refused.
+#![tactic(auto)]
+
 ghost use Rattle.std.specs.Prelude.{◌≡◌, [], ℕ, ◌*◌, ◌<◌, length, get_or, set};
 ghost use Rattle.places.specs.Lists.{Each};
 ghost use Rattle.flat.specs.Points.{vertices_of, vertex_of};

@@ -1,4 +1,6 @@
 // What part of a convex cell's volume lies in another: built on the promises of `geometry` alone.
+#![tactic(auto)]
+
 ghost use Rattle.std.specs.Prelude.{◌≡◌};
 ghost use Rattle.share.specs.Share.{quotient_of, share_answer};
 

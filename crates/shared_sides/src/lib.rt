@@ -1,6 +1,8 @@
 // For each side of a cell the two faces that have it. Each face leaves a mark at its sides, in a table with a row and a column
 // for each vertex that occurs: at the side between a lower and a higher vertex the first mark stands in the lower one's row,
 // the second in the higher one's.
+#![tactic(auto)]
+
 ghost use Rattle.std.specs.Prelude.{◌≡◌, Bool, true, false, not, ◌&&◌, cond, [], ◌∷◌, ℕ, ◌+◌, ◌*◌, ◌<◌, ◌≤◌, T, eqb, length};
 ghost use Rattle.places.specs.Limits.{most_vertices, most_faces};
 ghost use Rattle.places.specs.Loops.{any_of};

@@ -1,5 +1,7 @@
 // Numbers for the vertices that occur in a corner list, in the order of first mention, and the side table: a row and a column for each
 // such vertex, and no others.
+#![tactic(auto)]
+
 ghost use Rattle.std.specs.Prelude.{◌≡◌, ℕ, ◌*◌, ◌<◌, ◌≤◌};
 ghost use Rattle.places.specs.Limits.{most_vertices};
 ghost use Rattle.places.specs.Lists.{Each};

@@ -2,6 +2,8 @@
 // and compares every code and every number.
 // The words of a line, in hex: how many coordinates, corners and ends; these three lists; then the questions. A question is
 // how many words follow, and the words that the crate `questions` speaks of.
+#![tactic(auto)]
+
 mod text;
 
 ghost use Rattle.std.specs.Prelude.{◌≤◌, ◌<◌, ◌≡◌, length};

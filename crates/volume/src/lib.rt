@@ -1,4 +1,6 @@
 // Volume and centroids of a cell that is known to be sound.
+#![tactic(auto)]
+
 ghost use Rattle.std.specs.Prelude.{◌≡◌, ℕ, ◌+◌, ◌-◌, ◌<◌, ◌≤◌, ◌&&◌, leb, ltb, [], length};
 ghost use Rattle.places.specs.Limits.{most_faces, most_corners};
 ghost use Rattle.places.specs.Lists.{Each};

@@ -1,4 +1,6 @@
 // Work lists: the answer of a clipping, the stretch that shows it, and +0 everywhere else.
+#![tactic(auto)]
+
 ghost use Rattle.std.specs.Prelude.{◌≡◌, true, false, cond, ◌++◌, ◌-◌, ◌≤◌, length, take, replicate};
 ghost use Rattle.floats.specs.F64.{zero64};
 ghost use Rattle.work_lists.specs.WorkLists.{shorter_of};

@@ -50,6 +50,7 @@ pub fn dominant_axis(n: [f64; 3]) -> usize
 }
 
 // The point without that axis.
+#[tactic(auto, unfolding(crate::specs::Flat::project2_of))]
 pub fn project2(p: [f64; 3], axis: usize) -> [f64; 2]
     ensures { result ≡ project2_of p axis }
 {

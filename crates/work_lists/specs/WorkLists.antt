@@ -1,5 +1,5 @@
 -- Work lists: clipping goes from one to the other and back, and shows what is left in the one where it ended.
-use Rattle.std.specs.Prelude.{ℕ, ◌+◌, ◌-◌, Bool, true, false, not, cond, List, [], ◌∷◌, ◌++◌, length, replicate, ltb, Float}
+use Rattle.std.specs.Prelude.{ℕ, ◌-◌, Bool, true, false, not, cond, List, [], ◌∷◌, ◌++◌, length, replicate, ltb, Float}
 use Rattle.std.specs.Bool.{beq}
 use Rattle.places.specs.Stored.{joined}
 use Rattle.floats.specs.F64.{zero64}

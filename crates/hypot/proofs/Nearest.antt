@@ -2,7 +2,7 @@
 -- root is below the mid-point of that power and the largest value: neither of the two is nearer to the root than what it is rounded to,
 -- and at the mid-point itself the largest value is not taken, since its last digit is 1.
 use mathlib.Core.Path.{◌≡◌, refl, sym, ap, ◌∙◌, subst}
-use mathlib.Core.Logic.{◌⊎◌, inl, inr, ⊎_elim}
+use mathlib.Core.Logic.{inl, inr, ⊎_elim}
 use Prim.Native.Nat.{ℕ, zero, suc, ◌+◌, ◌-◌, ◌*◌, ◌%◌, ◌^◌, ◌≤◌, ◌<◌}
 use native.Mathlib.Nat.{le_trans, le_of_eq, le_of_lt, lt_of_lt_of_le, lt_of_not-le, lt_irrefl, not-le_of_lt, eq-or-lt_of_le, mul-le-mul}
 use native.Mathlib.Nat.{one-mul, sub-add_cancel}

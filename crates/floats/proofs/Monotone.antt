@@ -3,8 +3,8 @@
 -- the mid-point of the two would be at most the exact root of the smaller number and at least that of the larger.
 use mathlib.Core.Path.{◌≡◌, refl, sym, ap, ◌∙◌, subst}
 use mathlib.Core.Logic.{inl, inr}
-use Prim.Native.Nat.{ℕ, zero, suc, ◌+◌, ◌-◌, ◌*◌, ◌/◌, ◌^◌, ◌≤◌, ◌<◌, compare}
-use native.Mathlib.Nat.{le_trans, le_refl, le_of_eq, le_of_lt, le_of_mul-le-mul_right, lt_of_not-le, eq-or-lt_of_le, mul-pos}
+use Prim.Native.Nat.{ℕ, zero, suc, ◌+◌, ◌-◌, ◌*◌, ◌/◌, ◌^◌, ◌≤◌, ◌<◌}
+use native.Mathlib.Nat.{le_refl, le_of_eq, le_of_lt, le_of_mul-le-mul_right, lt_of_not-le, eq-or-lt_of_le, mul-pos}
 use native.Mathlib.Nat.{mul-le-mul_right, eq_of_mul-eq-mul_right}
 use native.Mathlib.Decide.{dec_le}
 use native.Mathlib.Omega.{arith}
@@ -13,19 +13,18 @@ use lib.Dec.{T, ltb, eqb, ltb→lt, lt→ltb, eqb→eq}
 use lib.Pow.{pow_pos}
 use lib.IntN.{ℤ}
 use borrow.Author.Tests.{lt-ltb, le-ltb}
-use lib.Ieee.{Float, nan, inf, fin, Format, prec, emax, low, up, down, size, hid, nearest, odd, units, fits, is_nan, lt, le, to_bits, of_bits}
+use lib.Ieee.{Float, nan, inf, fin, Format, prec, emax, low, up, down, size, hid, odd, units, fits, is_nan, lt, le, to_bits, of_bits}
 use lib.Ieee.{round, sum, add, mul}
-use lib.Ieee.Fits.{kept-lt, nearest-le, cond-fits, inf-fits, nan-fits, down_pos}
+use lib.Ieee.Fits.{down_pos}
 use lib.Ieee.Nearest.{div_same}
 use lib.Ieee.Bits.{of_bits-to_bits, is_true}
 use lib.Ieee.Exact.{HasValue}
 use lib.Ieee.Order.{transfer, le_of_values}
 use Rattle.floats.specs.Pick.{largest_of}
-use Rattle.floats.specs.Root.{floor_root, round_root, root_of}
+use Rattle.floats.specs.Root.{root_of}
 use Rattle.floats.specs.Nearest.{NearestRoot}
 use Rattle.floats.proofs.Delivered.{root_fits}
 use Rattle.floats.proofs.Nearest.{correctly_rounded}
-use Rattle.floats.proofs.Writing.{units_fits}
 
 -- ---- two values with the sign clear that are a and b times the same: their order is that of a and b, and where a is b they are one value
 le_is : (x y : Float) (a b c : ℕ) → 0 < c → HasValue x false a c → HasValue y false b c → T (le x y) → a ≤ b

@@ -1,6 +1,6 @@
 -- `floats::schoolbook::extract` meets its contract: the two facts of the schoolbook hold of what has been brought down, pair after pair
 -- (proofs/Pairs.antt), and after 27 pairs that is all.
-use Prim.Native.Nat.{ℕ, ◌+◌, ◌-◌, ◌*◌, ◌^◌, ◌<◌}
+use Prim.Native.Nat.{ℕ, ◌+◌, ◌*◌, ◌^◌, ◌<◌}
 use native.Mathlib.Omega.{arith}
 use Rattle.floats.proofs.Pairs.{one_pair, in_words, all_small}
 use Rattle.floats.proofs.schoolbook.extract.Goals as goal

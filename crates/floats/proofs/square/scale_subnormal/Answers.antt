@@ -1,6 +1,6 @@
 -- `floats::square::scale_subnormal` meets its contract. The invariant: a is b times 4 ^ d, and below 2 ^ 54.
 -- The measure is what is left up to that.
-use Prim.Native.Nat.{◌-◌, ◌<◌}
+use Prim.Native.Nat.{◌<◌}
 use native.Mathlib.Omega.{arith}
 use Rattle.floats.proofs.Reading.{next_d, few, small_scaled}
 use Rattle.floats.proofs.square.scale_subnormal.Goals as goal

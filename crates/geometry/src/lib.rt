@@ -20,83 +20,83 @@ ghost use Rattle.geometry.specs.Survey.{survey_answer};
 ghost use Rattle.geometry.specs.TurnFaces.{can_turn_answer, TurnFacesGives};
 
 // An answer that is a number, a yes or no, a count; or the number of the refusal.
-#[derive(Drop)]
+#[derive(Clone, Copy)]
 pub enum Number {
     Is(f64),
     Refused(u8),
 }
 
-#[derive(Drop)]
+#[derive(Clone, Copy)]
 pub enum Truth {
     Is(bool),
     Refused(u8),
 }
 
-#[derive(Drop)]
+#[derive(Clone, Copy)]
 pub enum Count {
     Is(usize),
     Refused(u8),
 }
 
 // A point and a box, of space and of the plane. An enum holds no array, so the coordinates have names.
-#[derive(Drop)]
+#[derive(Clone, Copy)]
 pub struct Point3 {
     pub x: f64,
     pub y: f64,
     pub z: f64,
 }
 
-#[derive(Drop)]
+#[derive(Clone, Copy)]
 pub struct Bounds3 {
     pub low: Point3,
     pub high: Point3,
 }
 
-#[derive(Drop)]
+#[derive(Clone, Copy)]
 pub struct Point2 {
     pub x: f64,
     pub y: f64,
 }
 
-#[derive(Drop)]
+#[derive(Clone, Copy)]
 pub struct Bounds2 {
     pub low: Point2,
     pub high: Point2,
 }
 
-#[derive(Drop)]
+#[derive(Clone, Copy)]
 pub enum Place {
     Is(Point3),
     Refused(u8),
 }
 
-#[derive(Drop)]
+#[derive(Clone, Copy)]
 pub enum Extent {
     Is(Bounds3),
     Refused(u8),
 }
 
-#[derive(Drop)]
+#[derive(Clone, Copy)]
 pub enum PlanePlace {
     Is(Point2),
     Refused(u8),
 }
 
-#[derive(Drop)]
+#[derive(Clone, Copy)]
 pub enum PlaneExtent {
     Is(Bounds2),
     Refused(u8),
 }
 
 // Done, or the refusal: what was asked for is carried out, or could be (`can_turn`).
-#[derive(Drop)]
+#[derive(Clone, Copy)]
 pub enum Done {
     Is,
     Refused(u8),
 }
 
 // What is known of a cell's shape.
-#[derive(Drop)]
+#[derive(Clone, Copy)]
 pub enum Convexity {
     Convex,
     Concave,
@@ -104,7 +104,7 @@ pub enum Convexity {
 }
 
 // A cell by value, beside its lists: how many vertices, corners and faces they hold, and what is known of its shape.
-#[derive(Drop)]
+#[derive(Clone, Copy)]
 pub struct Cell {
     pub vertices: usize,
     pub corners: usize,
@@ -113,21 +113,21 @@ pub struct Cell {
 }
 
 // A cell's description, or the refusal.
-#[derive(Drop)]
+#[derive(Clone, Copy)]
 pub enum Described {
     Is(Cell),
     Refused(u8),
 }
 
 // A plane: a unit normal and the offset along it; the inside is where n · x is at most d.
-#[derive(Drop)]
+#[derive(Clone, Copy)]
 pub struct Plane {
     pub n: [f64; 3],
     pub d: f64,
 }
 
 // A plane is there, or the face has no area, or the refusal. An enum holds no array, so the plane stands beside this.
-#[derive(Drop)]
+#[derive(Clone, Copy)]
 pub enum PlaneAnswer {
     Is,
     NoArea,
@@ -135,14 +135,14 @@ pub enum PlaneAnswer {
 }
 
 // The plane of a face; where there is none it is +0 four times.
-#[derive(Drop)]
+#[derive(Clone, Copy)]
 pub struct FacePlane {
     pub answer: PlaneAnswer,
     pub plane: Plane,
 }
 
 // The volume that two cells share, and how many faces of the first and of the second have no area.
-#[derive(Drop)]
+#[derive(Clone, Copy)]
 pub struct Shared {
     pub volume: f64,
     pub arealess: usize,
@@ -150,14 +150,14 @@ pub struct Shared {
 }
 
 // The overlap of two cells, or the refusal.
-#[derive(Drop)]
+#[derive(Clone, Copy)]
 pub enum Overlapped {
     Is(Shared),
     Refused(u8),
 }
 
 // Nothing is left; or an outline of so many points, in the first work list (false) or in the second (true); or the refusal.
-#[derive(Drop)]
+#[derive(Clone, Copy)]
 pub enum Clipped {
     Nothing,
     Outline(usize, bool),
@@ -165,21 +165,21 @@ pub enum Clipped {
 }
 
 // How many triangles a face is cut into, and how many turn tests were made: how often turn × direction was tested at a corner.
-#[derive(Drop)]
+#[derive(Clone, Copy)]
 pub struct CutCounts {
     pub triangles: usize,
     pub tests: usize,
 }
 
 // A face is cut, or the refusal.
-#[derive(Drop)]
+#[derive(Clone, Copy)]
 pub enum FaceCut {
     Is(CutCounts),
     Refused(u8),
 }
 
 // What the cell report finds out about a cell.
-#[derive(Drop)]
+#[derive(Clone, Copy)]
 pub struct Findings {
     pub triangles: usize,
     pub closed: bool,
@@ -188,7 +188,7 @@ pub struct Findings {
     pub contained: usize,
 }
 
-#[derive(Drop)]
+#[derive(Clone, Copy)]
 pub enum Surveyed {
     Is(Findings),
     Refused(u8),

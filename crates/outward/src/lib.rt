@@ -13,7 +13,7 @@ ghost use Rattle.outward.specs.Outward.{away_of, outward_of, outward_corners};
 ghost use Rattle.outward.specs.Steps.{see_of, same_seen};
 
 // What was seen of the vertices against a plane: one above it, one below it.
-#[derive(Drop)]
+#[derive(Clone, Copy)]
 struct Seen {
     above: bool,
     below: bool,

@@ -24,7 +24,7 @@ ghost use Rattle.overlap.specs.Steps.{Solid, Ready, Next, Joint, Stocked, skip_o
 ghost use Rattle.overlap.specs.Steps.{both_counted};
 
 // The clip's eps, the coplanar tolerance, and the point about which contributions are taken.
-#[derive(Drop)]
+#[derive(Clone, Copy)]
 pub struct Measures {
     pub eps: f64,
     pub coplanar: f64,
@@ -32,7 +32,7 @@ pub struct Measures {
 }
 
 // The volume that two cells share, and how many faces of the first and of the second have no area.
-#[derive(Drop)]
+#[derive(Clone, Copy)]
 pub struct Shared {
     pub volume: f64,
     pub arealess: usize,
@@ -40,21 +40,21 @@ pub struct Shared {
 }
 
 // The same, or that a work list has no room.
-#[derive(Drop)]
+#[derive(Clone, Copy)]
 pub enum SharedSum {
     Is(Shared),
     NoRoom,
 }
 
 // How many planes the faces of the first cell have, and those of the second.
-#[derive(Drop)]
+#[derive(Clone, Copy)]
 struct PlaneCounts {
     planes: usize,
     planes2: usize,
 }
 
 // Whose faces are added, those of the first cell or of the other, how many planes they have, by which measures, and their sum so far.
-#[derive(Drop)]
+#[derive(Clone, Copy)]
 struct SumSoFar {
     other: bool,
     count: usize,

@@ -13,14 +13,14 @@ ghost use Rattle.planes.specs.Planes.{distance_of, same_side, coplanar_opposite,
 ghost use Rattle.planes.specs.Steps.{no_plane, handed};
 
 // A unit normal and an offset; inside is n · x <= d.
-#[derive(Drop)]
+#[derive(Clone, Copy)]
 pub struct Plane {
     pub n: [f64; 3],
     pub d: f64,
 }
 
 // The plane of a face that has area. For one of no area there is none, and +0 four times stand in its place.
-#[derive(Drop)]
+#[derive(Clone, Copy)]
 pub struct PlaneOrNone {
     pub area: bool,
     pub plane: Plane,

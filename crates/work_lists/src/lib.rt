@@ -8,7 +8,7 @@ ghost use Rattle.work_lists.specs.Steps.{shown_numbers};
 
 // What one plane or edge makes of an outline: it is left whole, nothing is left, there is no room,
 // or so many points are left in the other list.
-#[derive(Drop)]
+#[derive(Clone, Copy)]
 pub enum Step {
     Kept,
     Gone,
@@ -17,7 +17,7 @@ pub enum Step {
 }
 
 // Nothing is left; or an outline of so many points, in the first work list (false) or in the second (true); or there is no room.
-#[derive(Drop)]
+#[derive(Clone, Copy)]
 pub enum Left {
     Nothing,
     Outline(usize, bool),
@@ -25,7 +25,7 @@ pub enum Left {
 }
 
 // A sum over what is left, or there is no room in the lists. Clipping knows no refusal numbers: `geometry` gives them.
-#[derive(Drop)]
+#[derive(Clone, Copy)]
 pub enum Sum {
     Is(f64),
     NoRoom,

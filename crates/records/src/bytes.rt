@@ -3,7 +3,7 @@ ghost use Rattle.std.specs.Prelude.{◌≡◌, ◌+◌, ◌≤◌, ◌<◌, leng
 ghost use Rattle.records.specs.Bytes.{word_of, clear_of, record_of};
 
 // A record: byte 0 is its kind, `clear` says that bytes 1 to 7 are zero, and then come three fields.
-#[derive(Drop)]
+#[derive(Clone, Copy)]
 pub struct Rec {
     pub kind: u8,
     pub clear: bool,

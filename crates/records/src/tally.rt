@@ -11,7 +11,7 @@ use crate::bytes::Rec;
 
 // What is known of the cell so far: its number, how much of it came, whether a face has corners and
 // no end yet, why it is refused (0 while it is not), and whether any record came.
-#[derive(Drop)]
+#[derive(Clone, Copy)]
 pub struct Tally {
     pub number: u64,
     pub verts: usize,

@@ -12,6 +12,6 @@ use Rattle.inside.specs.Inside.{cross_face, contains_of, marked_from, cross_mark
 -- 'unfolding computed' opens them all
 unfoldable pub computed : Unit {0}
 unfolding of_bits add sub mul div lt le fold_list in_threes magnitude_of largest_of corners_of newell_side newell_of axis_of project2_of
-    point_of points_of faces_of meets_at passes pass_side in_outline along_of distance_ahead ray_crosses cross_face contains_of marked_from cross_marked
-    phed_contains_of
+    point_of points_of faces_of meets_at passes pass_side in_outline along_of distance_ahead ray_crosses cross_face contains_of marked_from
+    cross_marked phed_contains_of
 computed = tt

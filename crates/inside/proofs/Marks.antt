@@ -97,7 +97,8 @@ module _ (vs : List Point) where
   open_inside [] m = each_nil
   open_inside (c ∷ cs) m = go (eqb c face_end) refl (open_inside cs (each_tail m))
     where
-      go : (b : Bool) → eqb c face_end ≡ b → Inside vs (take (before_mark cs) cs) → Inside vs (take (cond b 0 (suc (before_mark cs))) (c ∷ cs))
+      go : (b : Bool) → eqb c face_end ≡ b → Inside vs (take (before_mark cs) cs) →
+          Inside vs (take (cond b 0 (suc (before_mark cs))) (c ∷ cs))
       go true e r = each_nil
       go false e r = each_cons (each_head m (eqb-false c face_end e)) r
 

@@ -1,13 +1,11 @@
 -- The ray and a face: a face's points in the plane, a face of no corners, and sides that pass or do not, for the tests that the ray makes.
-use mathlib.Core.Path.{◌≡◌, refl, sym, ◌∙◌}
+use mathlib.Core.Path.{◌≡◌, refl}
 use mathlib.Core.Bool.{Bool, true, false, not, ◌&&◌, beq}
 use mathlib.Core.List.{List, [], ◌∷◌}
-use Prim.Native.Nat.{ℕ, ◌+◌, ◌-◌, ◌<◌, ◌≤◌}
+use Prim.Native.Nat.{ℕ, ◌<◌}
 use native.Mathlib.Omega.{arith}
-use lib.ListN.{length, get_or, drop, drop_of_length-le, length-map}
+use lib.ListN.{length, get_or, length-map}
 use lib.Ieee.{Float, of_bits, mul, lt, le}
-use Rattle.places.specs.Ring.{walk, sides}
-use Rattle.places.proofs.Loops.{drop_more}
 use Rattle.places.specs.Loops.{fold_list}
 use Rattle.places.proofs.Lists.{map_at}
 use Rattle.floats.specs.Pick.{magnitude_of, largest_of}

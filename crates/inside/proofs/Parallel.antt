@@ -1,7 +1,7 @@
 -- A face that is parallel to the ray: its normal has a first part of 0, and that is as good as at right angles whatever the other parts
 -- are, so that `along` may answer at once.
-use mathlib.Core.Path.{◌≡◌, refl, sym, ◌∙◌}
-use mathlib.Core.Bool.{Bool, true, false, not, ◌&&◌, ◌||◌, cond, beq}
+use mathlib.Core.Path.{◌≡◌, refl, sym}
+use mathlib.Core.Bool.{Bool, true, false, not, ◌&&◌, ◌||◌, cond}
 use mathlib.Core.Bool.{true≢false}
 use Prim.Native.Nat.{ℕ, zero, suc, ◌*◌, ◌+◌, ◌^◌}
 use native.Mathlib.Nat.{zero-mul}
@@ -9,7 +9,7 @@ use native.Mathlib.Omega.{arith}
 use borrow.Author.Tests.{eqb-true, lt-ltb}
 use lib.Dec.{T, eqb, ltb}
 use lib.IntN.{ℤ, pos, negsuc}
-use lib.Ieee.{Float, Format, nan, inf, fin, binary64, of_bits, mul, round, units, odd, size, low, emax, prec, is_nan, lt, le, eq, up, down}
+use lib.Ieee.{Float, Format, nan, inf, fin, binary64, of_bits, mul, round, units, odd, low, emax, prec, is_nan, lt, le, eq, up, down}
 use Rattle.floats.specs.F64.{◌*f◌, zero64, epsilon64}
 use Rattle.floats.specs.Pick.{magnitude_of, largest_of}
 use Rattle.flat.specs.Points.{Point, at}

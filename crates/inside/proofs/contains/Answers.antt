@@ -1,0 +1,24 @@
+-- `inside::contains` meets its contract: each pass turns the answer as `cross_face` does, so the faces that are left make, with the answer
+-- so far, the whole (`Facing`).
+use mathlib.Core.Path.{refl}
+use native.Mathlib.Omega.{arith}
+use Rattle.cell.proofs.Faces.{face_start, face_step, face_next, face_end_lem}
+use Rattle.inside.specs.Inside.{contains_of}
+use Rattle.inside.proofs.contains.Goals as goal
+
+pub loop-k-init : goal.loop-k-init
+unfolding contains_of
+loop-k-init c =
+    face_start c.requires.ordered refl
+
+pub face-face-requires : goal.face-face-requires
+face-face-requires c =
+    let step = face_step c.loop-k.invariant (omega arith) c.corner-end.ensures.0 in
+    (step.from, step.upto)
+
+pub loop-k-preserved : goal.loop-k-preserved
+loop-k-preserved c =
+    face_next c.loop-k.invariant (omega arith) c.corner-end.ensures.0 (cc)
+
+pub returns : goal.returns
+returns c = face_end_lem c.loop-k.invariant (omega arith)

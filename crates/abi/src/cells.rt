@@ -7,32 +7,19 @@ ghost use Rattle.geometry.specs.CheckCut.{check_cut_answer};
 ghost use Rattle.geometry.specs.Listed.{told, written, of_number, of_truth, of_face_cut, of_place, of_extent, of_surveyed, triangles_told};
 ghost use Rattle.geometry.specs.Listed.{triangle_places_told};
 
-#[unsafe(no_mangle)]
-pub extern "C" fn wegrusamt_volume(
-    coords: &[f64],
-    corners: &[u32],
-    ends: &[u32],
-    out: &mut [f64],
-) -> u8
+pub fn wegrusamt_volume(coords: &[f64], corners: &[u32], ends: &[u32], out: &mut [f64]) -> u8
     ensures { told result out.new [] ≡ written (of_number (volume_answer coords.now corners.now ends.now)) out.old [] }
 {
     answer_lists::put_number(geometry::volume(coords, corners, ends), out)
 }
 
-#[unsafe(no_mangle)]
-pub extern "C" fn wegrusamt_centroid(
-    coords: &[f64],
-    corners: &[u32],
-    ends: &[u32],
-    out: &mut [f64],
-) -> u8
+pub fn wegrusamt_centroid(coords: &[f64], corners: &[u32], ends: &[u32], out: &mut [f64]) -> u8
     ensures { told result out.new [] ≡ written (of_place (centroid_answer coords.now corners.now ends.now)) out.old [] }
 {
     answer_lists::put_place(geometry::centroid(coords, corners, ends), out)
 }
 
-#[unsafe(no_mangle)]
-pub extern "C" fn wegrusamt_geometric_centroid(
+pub fn wegrusamt_geometric_centroid(
     coords: &[f64],
     corners: &[u32],
     ends: &[u32],
@@ -45,45 +32,26 @@ pub extern "C" fn wegrusamt_geometric_centroid(
 }
 
 // Six numbers: the low corner, then the high one.
-#[unsafe(no_mangle)]
-pub extern "C" fn wegrusamt_bounds(
-    coords: &[f64],
-    corners: &[u32],
-    ends: &[u32],
-    out: &mut [f64],
-) -> u8
+pub fn wegrusamt_bounds(coords: &[f64], corners: &[u32], ends: &[u32], out: &mut [f64]) -> u8
     ensures { told result out.new [] ≡ written (of_extent (bounds_answer coords.now corners.now ends.now)) out.old [] }
 {
     answer_lists::put_extent(geometry::bounds(coords, corners, ends), out)
 }
 
-#[unsafe(no_mangle)]
-pub extern "C" fn wegrusamt_scale(
-    coords: &[f64],
-    corners: &[u32],
-    ends: &[u32],
-    out: &mut [f64],
-) -> u8
+pub fn wegrusamt_scale(coords: &[f64], corners: &[u32], ends: &[u32], out: &mut [f64]) -> u8
     ensures { told result out.new [] ≡ written (of_number (scale_answer coords.now corners.now ends.now)) out.old [] }
 {
     answer_lists::put_number(geometry::scale(coords, corners, ends), out)
 }
 
 // 1 for yes and 0 for no, here and below.
-#[unsafe(no_mangle)]
-pub extern "C" fn wegrusamt_closed(
-    coords: &[f64],
-    corners: &[u32],
-    ends: &[u32],
-    out: &mut [usize],
-) -> u8
+pub fn wegrusamt_closed(coords: &[f64], corners: &[u32], ends: &[u32], out: &mut [usize]) -> u8
     ensures { told result [] out.new ≡ written (of_truth (closed_answer coords.now corners.now ends.now)) [] out.old }
 {
     answer_lists::put_truth(geometry::closed(coords, corners, ends), out)
 }
 
-#[unsafe(no_mangle)]
-pub extern "C" fn wegrusamt_contains(
+pub fn wegrusamt_contains(
     coords: &[f64],
     corners: &[u32],
     ends: &[u32],
@@ -98,8 +66,7 @@ pub extern "C" fn wegrusamt_contains(
     answer_lists::put_truth(geometry::contains(coords, corners, ends, [x, y, z]), out)
 }
 
-#[unsafe(no_mangle)]
-pub extern "C" fn wegrusamt_point_in_phed(
+pub fn wegrusamt_point_in_phed(
     coords: &[f64],
     cs: &[u32],
     x: f64,
@@ -125,8 +92,7 @@ fn uncounted(coords: &[f64], corners: &[u32], ends: &[u32], face: u32) -> u8
 
 // How many triangles there are and how many turn tests were made go into a list of their own. Without two places there is no room for a
 // triangle either, so that nothing is written.
-#[unsafe(no_mangle)]
-pub extern "C" fn wegrusamt_triangles(
+pub fn wegrusamt_triangles(
     coords: &[f64],
     corners: &[u32],
     ends: &[u32],
@@ -142,8 +108,7 @@ pub extern "C" fn wegrusamt_triangles(
     answer_lists::put_face_cut(geometry::triangles(coords, corners, ends, face, out), count)
 }
 
-#[unsafe(no_mangle)]
-pub extern "C" fn wegrusamt_triangle_places(
+pub fn wegrusamt_triangle_places(
     coords: &[f64],
     corners: &[u32],
     ends: &[u32],
@@ -162,16 +127,14 @@ pub extern "C" fn wegrusamt_triangle_places(
     )
 }
 
-#[unsafe(no_mangle)]
-pub extern "C" fn wegrusamt_check_cut(n: u32, places: &[u32], out: &mut [usize]) -> u8
+pub fn wegrusamt_check_cut(n: u32, places: &[u32], out: &mut [usize]) -> u8
     ensures { told result [] out.new ≡ written (of_truth (check_cut_answer n places.now)) [] out.old }
 {
     answer_lists::put_truth(geometry::check_cut(n, places), out)
 }
 
 // Four counts (triangles, closed, short, contained) in one list, the volume in another.
-#[unsafe(no_mangle)]
-pub extern "C" fn wegrusamt_survey(
+pub fn wegrusamt_survey(
     coords: &[f64],
     corners: &[u32],
     ends: &[u32],

@@ -5,8 +5,7 @@ ghost use Rattle.geometry.specs.Listed.{clipping_told, measure_told, overlap_tol
 
 // What is shown: how many points are left, 0 for nothing, and 1 where they stand in the second work list. Without room for both numbers
 // nothing is shown.
-#[unsafe(no_mangle)]
-pub extern "C" fn wegrusamt_clip_face(
+pub fn wegrusamt_clip_face(
     coords: &[f64],
     corners: &[u32],
     ends: &[u32],
@@ -24,8 +23,7 @@ pub extern "C" fn wegrusamt_clip_face(
     answer_lists::shown::put_shown(a, first, second, shown)
 }
 
-#[unsafe(no_mangle)]
-pub extern "C" fn wegrusamt_clip_convex(
+pub fn wegrusamt_clip_convex(
     subject: &[f64],
     clip: &[f64],
     first: &mut [f64],
@@ -39,8 +37,7 @@ pub extern "C" fn wegrusamt_clip_convex(
     answer_lists::shown::put_shown(a, first, second, shown)
 }
 
-#[unsafe(no_mangle)]
-pub extern "C" fn wegrusamt_convex_intersection_area(
+pub fn wegrusamt_convex_intersection_area(
     subject: &[f64],
     clip: &[f64],
     first: &mut [f64],
@@ -54,8 +51,7 @@ pub extern "C" fn wegrusamt_convex_intersection_area(
     answer_lists::put_number(a, out)
 }
 
-#[unsafe(no_mangle)]
-pub extern "C" fn wegrusamt_convex_intersection_volume(
+pub fn wegrusamt_convex_intersection_volume(
     coords: &[f64],
     corners: &[u32],
     ends: &[u32],

@@ -5,8 +5,7 @@ ghost use Rattle.geometry.specs.Leaves.{vertices_of, tet_volume_of_list, wedge_v
 ghost use Rattle.geometry.specs.Leaves.{hex_contains_of};
 ghost use Rattle.geometry.specs.Listed.{told, written, values, of_shape};
 
-#[unsafe(no_mangle)]
-pub extern "C" fn wegrusamt_tet_volume(p: &[f64], out: &mut [f64]) -> u8
+pub fn wegrusamt_tet_volume(p: &[f64], out: &mut [f64]) -> u8
     ensures { told result out.new [] ≡ written (of_shape 12 p.now (values (tet_volume_of_list (vertices_of p.now) ∷ []) []))
         out.old [] }
 {
@@ -17,8 +16,7 @@ pub extern "C" fn wegrusamt_tet_volume(p: &[f64], out: &mut [f64]) -> u8
     answer_lists::put(&[geometry::fixed::tet_volume(c[0], c[1], c[2], c[3])], out)
 }
 
-#[unsafe(no_mangle)]
-pub extern "C" fn wegrusamt_wedge_volume(p: &[f64], out: &mut [f64]) -> u8
+pub fn wegrusamt_wedge_volume(p: &[f64], out: &mut [f64]) -> u8
     ensures { told result out.new [] ≡ written (of_shape 18 p.now (values (wedge_volume_of (vertices_of p.now) ∷ []) []))
         out.old [] }
 {
@@ -31,8 +29,7 @@ pub extern "C" fn wegrusamt_wedge_volume(p: &[f64], out: &mut [f64]) -> u8
     )
 }
 
-#[unsafe(no_mangle)]
-pub extern "C" fn wegrusamt_hex_volume(p: &[f64], out: &mut [f64]) -> u8
+pub fn wegrusamt_hex_volume(p: &[f64], out: &mut [f64]) -> u8
     ensures { told result out.new [] ≡ written (of_shape 24 p.now (values (hex_volume_of (vertices_of p.now) ∷ []) [])) out.old [] }
 {
     if p.len() != 24 {
@@ -44,8 +41,7 @@ pub extern "C" fn wegrusamt_hex_volume(p: &[f64], out: &mut [f64]) -> u8
     )
 }
 
-#[unsafe(no_mangle)]
-pub extern "C" fn wegrusamt_tet_contains(p: &[f64], x: f64, y: f64, z: f64, out: &mut [usize]) -> u8
+pub fn wegrusamt_tet_contains(p: &[f64], x: f64, y: f64, z: f64, out: &mut [usize]) -> u8
     ensures { told result [] out.new ≡ written (of_shape 12 p.now
         (values [] (one_if (tet_contains_of (x ∷ y ∷ z ∷ []) (vertices_of p.now)) ∷ []))) [] out.old }
 {
@@ -56,14 +52,7 @@ pub extern "C" fn wegrusamt_tet_contains(p: &[f64], x: f64, y: f64, z: f64, out:
     answer_lists::put_counts(&[places::one_if(inside)], out)
 }
 
-#[unsafe(no_mangle)]
-pub extern "C" fn wegrusamt_wedge_contains(
-    p: &[f64],
-    x: f64,
-    y: f64,
-    z: f64,
-    out: &mut [usize],
-) -> u8
+pub fn wegrusamt_wedge_contains(p: &[f64], x: f64, y: f64, z: f64, out: &mut [usize]) -> u8
     ensures { told result [] out.new ≡ written (of_shape 18 p.now
         (values [] (one_if (wedge_contains_of (x ∷ y ∷ z ∷ []) (vertices_of p.now)) ∷ []))) [] out.old }
 {
@@ -74,8 +63,7 @@ pub extern "C" fn wegrusamt_wedge_contains(
     answer_lists::put_counts(&[places::one_if(inside)], out)
 }
 
-#[unsafe(no_mangle)]
-pub extern "C" fn wegrusamt_hex_contains(p: &[f64], x: f64, y: f64, z: f64, out: &mut [usize]) -> u8
+pub fn wegrusamt_hex_contains(p: &[f64], x: f64, y: f64, z: f64, out: &mut [usize]) -> u8
     ensures { told result [] out.new ≡ written (of_shape 24 p.now
         (values [] (one_if (hex_contains_of (x ∷ y ∷ z ∷ []) (vertices_of p.now)) ∷ []))) [] out.old }
 {

@@ -7,79 +7,68 @@ ghost use Rattle.geometry.specs.Leaves.{cross2_of, axis_of, project2_of, crossin
 ghost use Rattle.geometry.specs.Leaves.{plane_same_side_answer, plane_coplanar_opposite_answer};
 ghost use Rattle.geometry.specs.Listed.{told, written, values};
 
-#[unsafe(no_mangle)]
-pub extern "C" fn wegrusamt_magnitude(x: f64) -> f64
+pub fn wegrusamt_magnitude(x: f64) -> f64
     ensures { result ≡ magnitude_of x }
 {
     geometry::leaves::magnitude(x)
 }
 
-#[unsafe(no_mangle)]
-pub extern "C" fn wegrusamt_least(a: f64, b: f64) -> f64
+pub fn wegrusamt_least(a: f64, b: f64) -> f64
     ensures { result ≡ least_of a b }
 {
     geometry::leaves::least(a, b)
 }
 
-#[unsafe(no_mangle)]
-pub extern "C" fn wegrusamt_largest(a: f64, b: f64) -> f64
+pub fn wegrusamt_largest(a: f64, b: f64) -> f64
     ensures { result ≡ largest_of a b }
 {
     geometry::leaves::largest(a, b)
 }
 
-#[unsafe(no_mangle)]
-pub extern "C" fn wegrusamt_root(x: f64) -> f64
+pub fn wegrusamt_root(x: f64) -> f64
     ensures { result ≡ root_of binary64 x }
 {
     geometry::leaves::root(x)
 }
 
-#[unsafe(no_mangle)]
-pub extern "C" fn wegrusamt_hypot(x: f64, y: f64) -> f64
+pub fn wegrusamt_hypot(x: f64, y: f64) -> f64
     ensures { result ≡ hypot_of binary64 x y }
 {
     geometry::leaves::hypot(x, y)
 }
 
-#[unsafe(no_mangle)]
-pub extern "C" fn wegrusamt_pattern(x: f64) -> u64
+pub fn wegrusamt_pattern(x: f64) -> u64
     ensures { result ≡ to_bits binary64 x }
 {
     geometry::leaves::pattern(x)
 }
 
-#[unsafe(no_mangle)]
-pub extern "C" fn wegrusamt_of_pattern(b: u64) -> f64
+pub fn wegrusamt_of_pattern(b: u64) -> f64
     ensures { result ≡ of_bits binary64 b }
 {
     geometry::leaves::of_pattern(b)
 }
 
 // Points and normals come as their coordinates, and go to the front of a list.
-#[unsafe(no_mangle)]
-pub extern "C" fn wegrusamt_cross2(ax: f64, ay: f64, bx: f64, by: f64, cx: f64, cy: f64) -> f64
+pub fn wegrusamt_cross2(ax: f64, ay: f64, bx: f64, by: f64, cx: f64, cy: f64) -> f64
     ensures { result ≡ cross2_of (ax ∷ ay ∷ []) (bx ∷ by ∷ []) (cx ∷ cy ∷ []) }
 {
     geometry::leaves::cross2([ax, ay], [bx, by], [cx, cy])
 }
 
-#[unsafe(no_mangle)]
-pub extern "C" fn wegrusamt_dominant_axis(x: f64, y: f64, z: f64) -> usize
+pub fn wegrusamt_dominant_axis(x: f64, y: f64, z: f64) -> usize
     ensures { result ≡ axis_of (x ∷ y ∷ z ∷ []) }
 {
     geometry::leaves::dominant_axis([x, y, z])
 }
 
-#[unsafe(no_mangle)]
-pub extern "C" fn wegrusamt_project2(x: f64, y: f64, z: f64, axis: usize, out: &mut [f64]) -> u8
+pub fn wegrusamt_project2(x: f64, y: f64, z: f64, axis: usize, out: &mut [f64]) -> u8
     ensures { told result out.new [] ≡ written (values (project2_of (x ∷ y ∷ z ∷ []) axis) []) out.old [] }
 {
     answer_lists::put(&geometry::leaves::project2([x, y, z], axis), out)
 }
 
-#[unsafe(no_mangle)]
-pub extern "C" fn wegrusamt_segment_intersection(
+pub fn wegrusamt_segment_intersection(
     ax: f64,
     ay: f64,
     bx: f64,
@@ -99,8 +88,7 @@ pub extern "C" fn wegrusamt_segment_intersection(
     )
 }
 
-#[unsafe(no_mangle)]
-pub extern "C" fn wegrusamt_segment_plane_intersection(
+pub fn wegrusamt_segment_plane_intersection(
     ax: f64,
     ay: f64,
     az: f64,
@@ -121,8 +109,7 @@ pub extern "C" fn wegrusamt_segment_plane_intersection(
 }
 
 // A plane is its normal, then its offset; the answer is 1 for yes and 0 for no.
-#[unsafe(no_mangle)]
-pub extern "C" fn wegrusamt_plane_same_side(
+pub fn wegrusamt_plane_same_side(
     ax: f64,
     ay: f64,
     az: f64,
@@ -147,8 +134,7 @@ pub extern "C" fn wegrusamt_plane_same_side(
     answer_lists::bit(geometry::leaves::plane_same_side(a, b, tol))
 }
 
-#[unsafe(no_mangle)]
-pub extern "C" fn wegrusamt_plane_coplanar_opposite(
+pub fn wegrusamt_plane_coplanar_opposite(
     ax: f64,
     ay: f64,
     az: f64,

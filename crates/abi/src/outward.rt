@@ -3,8 +3,7 @@ ghost use Rattle.std.specs.Prelude.{◌≡◌, []};
 ghost use Rattle.geometry.specs.Cells.{describe_answer, is_convex_answer, into_ccw_answer, plane_of_face_answer, no_area_faces_answer};
 ghost use Rattle.geometry.specs.Listed.{told, written, shape_known, of_truth, of_described, done_told, of_face_plane, TurnFacesTold};
 
-#[unsafe(no_mangle)]
-pub extern "C" fn wegrusamt_is_convex(
+pub fn wegrusamt_is_convex(
     coords: &[f64],
     corners: &[u32],
     ends: &[u32],
@@ -26,8 +25,7 @@ pub extern "C" fn wegrusamt_is_convex(
 }
 
 // Four numbers: how many vertices, corners and faces, and what is known of the shape, 2 for nothing.
-#[unsafe(no_mangle)]
-pub extern "C" fn wegrusamt_describe(
+pub fn wegrusamt_describe(
     coords: &[f64],
     corners: &[u32],
     ends: &[u32],
@@ -48,8 +46,7 @@ pub extern "C" fn wegrusamt_describe(
     )
 }
 
-#[unsafe(no_mangle)]
-pub extern "C" fn wegrusamt_into_ccw(coords: &[f64], corners: &mut [u32], ends: &[u32]) -> u8
+pub fn wegrusamt_into_ccw(coords: &[f64], corners: &mut [u32], ends: &[u32]) -> u8
     ensures { (result, corners.new) ≡ done_told (into_ccw_answer coords.now corners.old ends.now) }
 {
     answer_lists::done_code(geometry::into_ccw(coords, corners, ends))
@@ -57,8 +54,7 @@ pub extern "C" fn wegrusamt_into_ccw(coords: &[f64], corners: &mut [u32], ends: 
 
 // One number: how many faces were reversed. Where `out` has no room for it, only the refusal is computed,
 // and the corner list stays as it was.
-#[unsafe(no_mangle)]
-pub extern "C" fn wegrusamt_turn_faces(
+pub fn wegrusamt_turn_faces(
     coords: &[f64],
     corners: &mut [u32],
     ends: &[u32],
@@ -73,8 +69,7 @@ pub extern "C" fn wegrusamt_turn_faces(
 }
 
 // Four numbers and 1; or 0 alone, where the face has no area.
-#[unsafe(no_mangle)]
-pub extern "C" fn wegrusamt_plane_of_face(
+pub fn wegrusamt_plane_of_face(
     coords: &[f64],
     corners: &[u32],
     ends: &[u32],
@@ -92,8 +87,7 @@ pub extern "C" fn wegrusamt_plane_of_face(
     )
 }
 
-#[unsafe(no_mangle)]
-pub extern "C" fn wegrusamt_no_area_faces(
+pub fn wegrusamt_no_area_faces(
     coords: &[f64],
     corners: &[u32],
     ends: &[u32],

@@ -1,0 +1,59 @@
+// The fixed shapes under C names: their corners in one list, three numbers each. Another length is refused 1; any bits pass.
+ghost use Rattle.std.specs.Prelude.{◌≡◌, [], ◌∷◌};
+ghost use Rattle.places.specs.Loops.{one_if};
+ghost use Rattle.geometry.specs.Leaves.{vertices_of, tet_volume_of_list, wedge_volume_of, hex_volume_of, tet_contains_of, wedge_contains_of};
+ghost use Rattle.geometry.specs.Leaves.{hex_contains_of};
+ghost use Rattle.geometry.specs.Listed.{told, written, values, of_shape};
+
+#[unsafe(no_mangle)]
+pub extern "C" fn wegrusamt_tet_volume(p: &[f64], out: &mut [f64]) -> u8
+    ensures { told result out.new [] ≡ written (of_shape 12 p.now (values (tet_volume_of_list (vertices_of p.now) ∷ []) []))
+        out.old [] }
+{
+    abi::fixed::wegrusamt_tet_volume(p, out)
+}
+
+#[unsafe(no_mangle)]
+pub extern "C" fn wegrusamt_wedge_volume(p: &[f64], out: &mut [f64]) -> u8
+    ensures { told result out.new [] ≡ written (of_shape 18 p.now (values (wedge_volume_of (vertices_of p.now) ∷ []) []))
+        out.old [] }
+{
+    abi::fixed::wegrusamt_wedge_volume(p, out)
+}
+
+#[unsafe(no_mangle)]
+pub extern "C" fn wegrusamt_hex_volume(p: &[f64], out: &mut [f64]) -> u8
+    ensures { told result out.new [] ≡ written (of_shape 24 p.now (values (hex_volume_of (vertices_of p.now) ∷ []) [])) out.old [] }
+{
+    abi::fixed::wegrusamt_hex_volume(p, out)
+}
+
+#[unsafe(no_mangle)]
+pub extern "C" fn wegrusamt_tet_contains(p: &[f64], x: f64, y: f64, z: f64, out: &mut [usize]) -> u8
+    ensures { told result [] out.new ≡ written (of_shape 12 p.now
+        (values [] (one_if (tet_contains_of (x ∷ y ∷ z ∷ []) (vertices_of p.now)) ∷ []))) [] out.old }
+{
+    abi::fixed::wegrusamt_tet_contains(p, x, y, z, out)
+}
+
+#[unsafe(no_mangle)]
+pub extern "C" fn wegrusamt_wedge_contains(
+    p: &[f64],
+    x: f64,
+    y: f64,
+    z: f64,
+    out: &mut [usize],
+) -> u8
+    ensures { told result [] out.new ≡ written (of_shape 18 p.now
+        (values [] (one_if (wedge_contains_of (x ∷ y ∷ z ∷ []) (vertices_of p.now)) ∷ []))) [] out.old }
+{
+    abi::fixed::wegrusamt_wedge_contains(p, x, y, z, out)
+}
+
+#[unsafe(no_mangle)]
+pub extern "C" fn wegrusamt_hex_contains(p: &[f64], x: f64, y: f64, z: f64, out: &mut [usize]) -> u8
+    ensures { told result [] out.new ≡ written (of_shape 24 p.now
+        (values [] (one_if (hex_contains_of (x ∷ y ∷ z ∷ []) (vertices_of p.now)) ∷ []))) [] out.old }
+{
+    abi::fixed::wegrusamt_hex_contains(p, x, y, z, out)
+}

@@ -27,7 +27,8 @@ unfolding is_cut_of
 wrong_number n c h = rw (ne_eqb (length (in_threes c) + 2) n (λ e. h (omega (arith, length_threes c))))
 
 -- where a triangle has not three different places
-pub not_different_lem : (n : ℕ) (c : List ℕ) {r : Bool} → r ≡ any_of not_different (in_threes c) → r ≡ true → false ≡ is_cut_of n (in_threes c)
+pub not_different_lem : (n : ℕ) (c : List ℕ) {r : Bool} → r ≡ any_of not_different (in_threes c) → r ≡ true
+    → false ≡ is_cut_of n (in_threes c)
 unfolding is_cut_of
 not_different_lem n c e q = rw (← e, q) (go (eqb (length (in_threes c) + 2) n) _)
   where

@@ -1,6 +1,6 @@
 -- The corners of each place in a chain, for `link` and for the loops that go along a chain: a corner that is put before the first of a
 -- chain leaves every chain as it was, since the corners of a chain come before it.
-use mathlib.Core.Path.{◌≡◌, sym, ◌∙◌}
+use mathlib.Core.Path.{◌≡◌, sym, ◌∙◌, subst}
 use mathlib.Core.Logic.{◌≢◌}
 use mathlib.Core.Bool.{Bool, true, false, cond}
 use mathlib.Core.List.{List, [], ◌∷◌}
@@ -22,7 +22,8 @@ unfolding corners_at
 chain_within next c a h zero t = omega arith
 chain_within next c a h (suc s) t = go (eqb (get_or c s 0) a) t (chain_within next c a h s)
   where
-    go : (b : Bool) → Chain next h (cond b (s ∷ corners_at a c s) (corners_at a c s)) → (Chain next h (corners_at a c s) → h ≤ s) → h ≤ suc s
+    go : (b : Bool) → Chain next h (cond b (s ∷ corners_at a c s) (corners_at a c s))
+        → (Chain next h (corners_at a c s) → h ≤ s) → h ≤ suc s
     go true t earlier = omega (arith, t.0)
     go false t earlier = omega (arith, earlier t)
 
@@ -64,7 +65,9 @@ module _ {head next c : List ℕ} {s : ℕ} (a : ℕ) (k : Backward next c) (t :
       top = (sym (add-one s), rw (get_or-set_same next s (get_or head a 0) 0 (omega (arith, k.sizes))) (kept a))
 
       go : (i : ℕ) → Dec (i ≡ a) → Chain (set next s (get_or head a 0)) (get_or (set head a (suc s)) i 0) (corners_at i c (suc s))
-      go i (yes q) = rw (q, get_or-set_same head a (suc s) 0 g, eq-eqb (get_or c s 0) a (sym e)) top
+      go i (yes q) =
+          subst (λ (z : ℕ). Chain (set next s (get_or head a 0)) (get_or (set head a (suc s)) z 0) (corners_at z c (suc s))) (sym q)
+          (rw (get_or-set_same head a (suc s) 0 g, eq-eqb (get_or c s 0) a (sym e)) top)
       go i (no n) = rw (get_or-set_other head a i (suc s) 0 n, ne_eqb (get_or c s 0) i (λ z. n (sym z ∙ sym e))) (kept i)
 
 -- ---- along a chain

@@ -79,7 +79,8 @@ module _ (n : ℕ) (ts : List (List ℕ)) where
             (two_are (runs i j ts) (runs j i ts) 1 1).1 (h i j f g (omega arith)))),
       )
     where
-      once : (i j : ℕ) → each_way n ts i j ≡ true → face_side n i j ≡ false → face_side n j i ≡ false → (runs i j ts ≡ 1) × (runs j i ts ≡ 1)
+      once : (i j : ℕ) → each_way n ts i j ≡ true → face_side n i j ≡ false → face_side n j i ≡ false
+          → (runs i j ts ≡ 1) × (runs j i ts ≡ 1)
       once i j e f g =
           (two_are (runs i j ts) (runs j i ts) 1 1).0
           ((third_is (face_side n i j) (face_side n j i) (eqb (runs i j ts) 1 && eqb (runs j i ts) 1)).0 e f g)

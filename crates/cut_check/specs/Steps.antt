@@ -2,7 +2,8 @@
 -- The triangles beside the face, which is taken backward; the corners of each place, linked in a chain; and the stamps that are written
 -- and taken off along a chain. A corner is its number in the list of all corners, three a triangle; what stands there is its place in the
 -- face.
-use Rattle.std.specs.Prelude.{◌≡◌, Bool, true, false, cond, List, [], ◌∷◌, ℕ, zero, suc, ◌+◌, ◌-◌, ◌*◌, ◌%◌, ◌<◌, ◌≤◌, eqb, ltb, length, get_or, set}
+use Rattle.std.specs.Prelude.{◌≡◌, Bool, true, false, cond, List, [], ◌∷◌, length, get_or, set}
+use Rattle.std.specs.Prelude.{ℕ, zero, suc, ◌+◌, ◌-◌, ◌*◌, ◌%◌, ◌<◌, ◌≤◌, eqb, ltb}
 use Rattle.places.specs.Limits.{most_checked_triangles}
 use Rattle.places.specs.Lists.{Each}
 use Rattle.places.specs.Loops.{one_if, count_of}

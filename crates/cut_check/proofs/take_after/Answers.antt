@@ -1,0 +1,21 @@
+-- `cut_check::take_after` meets its contract: what is left of the chain asks, of the stamps that are left, what the whole chain asks of
+-- all; and the chain ends, since it goes on at an earlier corner each time.
+use native.Mathlib.Omega.{arith}
+use lib.ListN.{length-set}
+use Rattle.cut_check.proofs.Chains.{goes_back}
+use Rattle.cut_check.proofs.Stamps.{take_no, take_more, take_end}
+use Rattle.cut_check.proofs.take_after.Goals as goal
+
+pub returns-then-stamp-b : goal.returns-then-stamp-b
+returns-then-stamp-b c ps k =
+    take_no (c.loop-h.invariant.2 ps k) c.loop-h-test.true c.place_after-b.ensures (λ e. omega (arith, e))
+
+pub loop-h-preserved : goal.loop-h-preserved
+loop-h-preserved c = (
+  omega (arith, goes_back c.requires.checked_corners.1 c.loop-h-test.true c.read-h.ensures),
+  rw length-set c.loop-h.invariant.1,
+  λ ps k. take_more (c.loop-h.invariant.2 ps k) c.loop-h-test.true c.read-h.ensures c.place_after-b.ensures (omega arith),
+)
+
+pub returns : goal.returns
+returns c ps k = take_end (c.loop-h.invariant.2 ps k) (omega arith)

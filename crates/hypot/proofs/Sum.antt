@@ -1,5 +1,5 @@
--- Where x is a units and y is b units, whatever their signs, `hypot_of` rounds the root of a * a + b * b units squared: over one denominator
--- the sum of the two squared fractions is that number of units squared.
+-- Where x is a units and y is b units, whatever their signs, `hypot_of` rounds the root of a * a + b * b units squared: over one
+-- denominator the sum of the two squared fractions is that number of units squared.
 use mathlib.Core.Path.{◌≡◌, refl, ap, ◌∙◌}
 use Prim.Native.Nat.{ℕ, ◌+◌, ◌*◌, ◌^◌, ◌<◌}
 use native.Mathlib.Nat.{mul-pos}

@@ -41,7 +41,8 @@ fields_magnitude f s (suc x) t =
 clear_bit : (b : ℕ) → of_bits binary64 (b % 2 ^ 63) ≡ magnitude_of (of_bits binary64 b)
 unfolding of_bits
 clear_bit b =
-    ap (λ (s : Bool). of_fields binary64 s (b % 2 ^ 63 % 2 ^ 63 / 2 ^ 52) (b % 2 ^ 63 % 2 ^ 52)) (lt-leb (2 ^ 63) (b % 2 ^ 63) (omega arith))
+    ap (λ (s : Bool). of_fields binary64 s (b % 2 ^ 63 % 2 ^ 63 / 2 ^ 52) (b % 2 ^ 63 % 2 ^ 52))
+    (lt-leb (2 ^ 63) (b % 2 ^ 63) (omega arith))
     ∙ ap (λ (x : ℕ). of_fields binary64 false (x / 2 ^ 52) (b % 2 ^ 63 % 2 ^ 52)) same
     ∙ ap (λ (x : ℕ). of_fields binary64 false (b % 2 ^ 63 / 2 ^ 52) x) low_same
     ∙ sym (fields_magnitude binary64 (leb (2 ^ 63) b) (b % 2 ^ 63 / 2 ^ 52) (b % 2 ^ 52))

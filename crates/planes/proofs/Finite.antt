@@ -30,7 +30,8 @@ use Rattle.cell.specs.Refusals.{number_refused, is_empty, empty_refused}
 use Rattle.cell.proofs.Faces.{length_faces, face_at, rises_at}
 use Rattle.cell.proofs.Refusals.{any_none, number_within, sound, tame}
 use Rattle.planes.specs.declared.Plane.{Plane}
-use Rattle.planes.specs.Planes.{dot_of, offset_of, norm_of, unit_plane, newell_plane, has_no_area, PlaneOrNoArea, no_area, has_plane, plane_of}
+use Rattle.planes.specs.Planes.{dot_of, offset_of, norm_of, unit_plane, newell_plane, has_no_area, PlaneOrNoArea}
+use Rattle.planes.specs.Planes.{no_area, has_plane, plane_of}
 use Rattle.planes.specs.Finite.{too_short, AllFinite, NoneFinite, FiniteOrNot, FinitePlanes}
 use Rattle.planes.proofs.Faces.{has_corner_lem, plane_with_area, plane_without_area}
 use Rattle.planes.proofs.Norm.{Normed, normed, value_finite, above_too_short, not_above_too_short, zeros_of_norm, norm_of_zeros}

@@ -35,7 +35,8 @@ past_four m j = omega arith
 
 -- the plane at place i has the four numbers from 4 i on
 pub fours_at : (l : List Float) (i : ℕ) (d : Float) → i < length l / 4
-    → get_or (in_fours l) i no_plane ≡ of_four (get_or l (i * 4) d) (get_or l (i * 4 + 1) d) (get_or l (i * 4 + 2) d) (get_or l (i * 4 + 3) d)
+    → get_or (in_fours l) i no_plane
+    ≡ of_four (get_or l (i * 4) d) (get_or l (i * 4 + 1) d) (get_or l (i * 4 + 2) d) (get_or l (i * 4 + 3) d)
 unfolding in_fours
 fours_at [] i d h = absurd (omega arith)
 fours_at (a ∷ []) i d h = absurd (omega arith)

@@ -72,7 +72,8 @@ unfolding fold_list
 along k a [] z s A L Z h p = subst (λ (n : ℕ). Sums n (newell_side a z s)) (omega arith) (next_side k a z s (omega arith) A Z p)
 along k a (b ∷ l) z s A L Z h p =
     subst (λ (n : ℕ). Sums n (fold_pairs newell_side (walk b l z) (newell_side a b s))) (omega arith)
-    (along (suc k) b l z (newell_side a b s) (each_head L) (each_tail L) Z (omega arith) (next_side k a b s (omega arith) A (each_head L) p))
+    (along (suc k) b l z (newell_side a b s) (each_head L) (each_tail L) Z (omega arith)
+    (next_side k a b s (omega arith) A (each_head L) p))
 
 -- before the first side they are 0
 none : Summed 0 zero64

@@ -23,7 +23,8 @@ tiny = of_bits binary64 0x2f10_0000_0000_0000
 
 -- the norm is 2 ^ -540; its square, 2 ^ -1080, is below the least f64
 pub square_underflows : plane_of (triangle tiny tiny) ≡ has_plane (record { n = zero64 ∷ zero64 ∷ one64 ∷ []; d = zero64 })
-unfolding plane_of has_no_area all_zero newell_plane unit_plane newell_of fold_list newell_side offset_of dot_of hypot_of add sub mul div neg eq of_bits
+unfolding plane_of has_no_area all_zero newell_plane unit_plane newell_of fold_list newell_side offset_of dot_of
+    hypot_of add sub mul div neg eq of_bits
 square_underflows = refl
 
 -- 2 ^ -512, and the fourth f64 after it, 2 ^ -512 + 2 ^ -562
@@ -35,12 +36,14 @@ fourth_after = of_bits binary64 0x1ff0_0000_0000_0004
 
 -- the norm is 2 ^ -1024, and 1 over it is an infinity
 pub no_finite_part : plane_of (triangle tinier tinier) ≡ has_plane (record { n = nan ∷ nan ∷ inf false ∷ []; d = nan })
-unfolding plane_of has_no_area all_zero newell_plane unit_plane newell_of fold_list newell_side offset_of dot_of hypot_of add sub mul div neg eq of_bits
+unfolding plane_of has_no_area all_zero newell_plane unit_plane newell_of fold_list newell_side offset_of dot_of
+    hypot_of add sub mul div neg eq of_bits
 no_finite_part = refl
 
 -- the norm is the next f64, 2 ^ -1024 + 2 ^ -1074
 pub next_norm : plane_of (triangle tinier fourth_after) ≡ has_plane (record { n = zero64 ∷ zero64 ∷ one64 ∷ []; d = zero64 })
-unfolding plane_of has_no_area all_zero newell_plane unit_plane newell_of fold_list newell_side offset_of dot_of hypot_of add sub mul div neg eq of_bits
+unfolding plane_of has_no_area all_zero newell_plane unit_plane newell_of fold_list newell_side offset_of dot_of
+    hypot_of add sub mul div neg eq of_bits
 next_norm = refl
 
 -- it is above `too_short`; that of the triangle before is `too_short` itself

@@ -1,0 +1,15 @@
+-- `planes::no_area_faces` meets its contract: each pass lays the number of one face in its place, and the faces to come give the other
+-- places (`Laying`).
+use Rattle.planes.specs.Planes.{no_area_faces}
+use Rattle.planes.proofs.Faces.{lay_start, lay_step}
+use Rattle.planes.proofs.no_area_faces.Goals as goal
+
+pub loop-k-init : goal.loop-k-init
+unfolding no_area_faces
+loop-k-init c =
+    lay_start c.requires.sound.ordered c.requires.out_len
+
+pub face-face-requires : goal.face-face-requires
+face-face-requires c =
+    let step = lay_step c.loop-k.invariant c.loop-k-test.true c.corner-end.ensures.0 in
+    (step.from, step.upto)

@@ -20,7 +20,8 @@ use Rattle.flat.specs.Steps.{Inside}
 use Rattle.flat.proofs.Corners.{length_corners, corner_at}
 use Rattle.next_corner.specs.NextCorner.{direction_of}
 use Rattle.next_corner.specs.declared.Choice.{Choice}
-use Rattle.cut.specs.Cut.{Cut, nothing, cut_with, tested, cut_ring, next_corner_of, cut_in, axis_for, cut_of, cut_by_place, ring_at, ByPlace}
+use Rattle.cut.specs.Cut.{Cut, nothing, cut_with, tested, cut_ring, next_corner_of, cut_in}
+use Rattle.cut.specs.Cut.{axis_for, cut_of, cut_by_place, ring_at, ByPlace}
 use Rattle.cut.specs.Steps.{Within, InOrder, Shown}
 use Rattle.cut.specs.declared.Counts.{Counts}
 use Rattle.cut.proofs.Facts.{choice_below}
@@ -54,26 +55,26 @@ module _ (vs : List Point) (face : List ℕ) where
   -- ---- so the same corner is chosen at every ring, and the two cuts run alike
   module _ (axis : ℕ) (dir : Float) where
     -- the choice among places, and the one among vertex numbers
-    abbrev by_place : List ℕ → Choice
-    by_place = next_corner_of (corners_of vs face) axis dir
+    abbrev by_corner : List ℕ → Choice
+    by_corner = next_corner_of (corners_of vs face) axis dir
 
     abbrev by_number : List ℕ → Choice
     by_number = next_corner_of vs axis dir
 
-    choice_alike : (ks : List ℕ) → Within face ks → by_number (ring_at face ks) ≡ by_place ks
+    choice_alike : (ks : List ℕ) → Within face ks → by_number (ring_at face ks) ≡ by_corner ks
     unfolding next_corner_of
     choice_alike ks w = rw (points_alike axis ks w)
 
     rings_alike : (more : ℕ) (ks : List ℕ) → Within face ks
-        → cut_ring by_number more (ring_at face ks) ≡ looked_up face (cut_ring by_place more ks)
+        → cut_ring by_number more (ring_at face ks) ≡ looked_up face (cut_ring by_corner more ks)
     unfolding cut_ring ring_at
     rings_alike zero ks w = refl
     rings_alike (suc more) ks w =
-        rw (choice_alike ks w) (ap (tested (by_place ks).tests) (go (by_place ks).corner refl (rings_alike more)))
+        rw (choice_alike ks w) (ap (tested (by_corner ks).tests) (go (by_corner ks).corner refl (rings_alike more)))
       where
-        go : (f : Found) → (by_place ks).corner ≡ f
-            → ((js : List ℕ) → Within face js → cut_ring by_number more (ring_at face js) ≡ looked_up face (cut_ring by_place more js))
-            → cut_with f (ring_at face ks) (cut_ring by_number more) ≡ looked_up face (cut_with f ks (cut_ring by_place more))
+        go : (f : Found) → (by_corner ks).corner ≡ f
+            → ((js : List ℕ) → Within face js → cut_ring by_number more (ring_at face js) ≡ looked_up face (cut_ring by_corner more js))
+            → cut_with f (ring_at face ks) (cut_ring by_number more) ≡ looked_up face (cut_with f ks (cut_ring by_corner more))
         go Nothing e ih = refl
         go (At k) e ih =
             let below = choice_below (corners_of vs face) axis dir ks k e in

@@ -12,8 +12,9 @@ pub returns-then-turns : goal.returns-then-turns
 unfolding ear_at turns_at
 returns-then-turns c =
     let t : turns_at c.args.ps.now c.args.dir c.args.k ≡ true = cc in
-    let b : blocked_of c.args.ps.now (before [] c.args.k c.args.ps.now) (get_or c.args.ps.now c.args.k []) (after [] c.args.k c.args.ps.now) c.args.dir ≡
-    c.blocked.result = cc in
+    let ps = c.args.ps.now in
+    let k = c.args.k in
+    let b : blocked_of ps (before [] k ps) (get_or ps k []) (after [] k ps) c.args.dir ≡ c.blocked.result = cc in
     rw (t, b)
 
 pub returns-else-turns : goal.returns-else-turns

@@ -6,7 +6,13 @@ use Rattle.next_corner.proofs.strictly_in.Goals as goal
 pub returns-then-cross2-dir-2 : goal.returns-then-cross2-dir-2
 unfolding strictly_in
 returns-then-cross2-dir-2 c =
-    rw (← c.cross2.ensures, ← c.cross2-then-cross2-dir.ensures, ← c.cross2-then-cross2-dir-2.ensures, c.if-cross2-dir.true, c.if-cross2-dir-2.true)
+    rw (
+      ← c.cross2.ensures,
+      ← c.cross2-then-cross2-dir.ensures,
+      ← c.cross2-then-cross2-dir-2.ensures,
+      c.if-cross2-dir.true,
+      c.if-cross2-dir-2.true,
+    )
 
 pub returns-else-cross2-dir-2 : goal.returns-else-cross2-dir-2
 unfolding strictly_in

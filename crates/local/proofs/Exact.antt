@@ -47,11 +47,11 @@ whole_of_lem : (s : Bool) (m : ℕ) (e : ℤ) → Within 40 (fin s m e) → whol
 unfolding whole_of
 whole_of_lem s m e h = ap (of_int binary64) (part_is 63 s m e (lt_of_le_of_lt (part_within s m e 40 h) (lit< tt)))
 
-whole_part : (x : Float) → Within 40 x → Whole (whole_of x)
+whole_part_lem : (x : Float) → Within 40 x → Whole (whole_of x)
 unfolding exact_of
-whole_part nan h = absurd h
-whole_part (inf s) h = absurd h
-whole_part (fin s m e) h =
+whole_part_lem nan h = absurd h
+whole_part_lem (inf s) h = absurd h
+whole_part_lem (fin s m e) h =
     let small = part_within s m e 40 h in
     let digits = le_trans small (pow_mono few) in
     subst Whole (sym (whole_of_lem s m e h))
@@ -63,7 +63,7 @@ whole_part (fin s m e) h =
     })
 
 pub whole_is : (x : Float) → out_of_range x ≡ false → Whole (whole_of x)
-whole_is x h = whole_part x (tame_within x h)
+whole_is x h = whole_part_lem x (tame_within x h)
 
 -- the fraction is less than 1
 near_part : (x : Float) → T (fits binary64 x) → Within 40 x → nat_abs (exact_of x -ℤ exact_of (whole_of x)) < 2 ^ 1074

@@ -4,7 +4,7 @@ use mathlib.Core.Path.{◌≡◌, refl, ◌∙◌, ap}
 use mathlib.Core.Logic.{◌⊎◌, inl, inr, ⊎_elim}
 use mathlib.Core.Bool.{Bool, true, false, cond}
 use mathlib.Core.List.{List, [], ◌∷◌, ◌++◌, map, reverse, append_assoc}
-use Prim.Native.Nat.{ℕ, ◌+◌, ◌-◌, ◌<◌}
+use Prim.Native.Nat.{ℕ, ◌-◌, ◌<◌}
 use native.Mathlib.Nat.{sub-zero}
 use native.Mathlib.Omega.{arith}
 use lib.Dec.{T, eqb→eq}
@@ -90,7 +90,9 @@ module _ (vs : List Point) (c es : List ℕ) (ordered : T (rises 0 es (length c)
   -- has as many corners as before
   pub length_turned : length (outward_corners vs (faces_of c es)) ≡ length c
   unfolding outward_corners faces_of
-  length_turned = length_joined (outward_of vs (centroid_of 3 vs)) (length_outward vs (centroid_of 3 vs)) c 0 es ordered ∙ sub-zero (length c)
+  length_turned =
+      length_joined (outward_of vs (centroid_of 3 vs)) (length_outward vs (centroid_of 3 vs)) c 0 es ordered
+      ∙ sub-zero (length c)
 
   -- and its faces, cut at the same ends, are the faces before, each turned outward
   pub faces_turned : faces_of (outward_corners vs (faces_of c es)) es ≡ map (outward_of vs (centroid_of 3 vs)) (faces_of c es)

@@ -21,7 +21,8 @@ unit_tetrahedron = zero64 ∷ zero64 ∷ zero64 ∷ one64 ∷ zero64 ∷ zero64 
 
 -- its faces are [0, 2, 1], [0, 1, 3], [1, 2, 3], [2, 0, 3]
 tetrahedron_convex :
-    compute_convexity_of (vertices_of unit_tetrahedron) (faces_of (0 ∷ 2 ∷ 1 ∷ 0 ∷ 1 ∷ 3 ∷ 1 ∷ 2 ∷ 3 ∷ 2 ∷ 0 ∷ 3 ∷ []) (3 ∷ 6 ∷ 9 ∷ 12 ∷ []))
+    compute_convexity_of (vertices_of unit_tetrahedron)
+    (faces_of (0 ∷ 2 ∷ 1 ∷ 0 ∷ 1 ∷ 3 ∷ 1 ∷ 2 ∷ 3 ∷ 2 ∷ 0 ∷ 3 ∷ []) (3 ∷ 6 ∷ 9 ∷ 12 ∷ []))
     ≡ true
 unfolding computed
 tetrahedron_convex = refl

@@ -16,7 +16,8 @@ trillionth64 = of_bits binary64 0x3d71_9799_812d_ea11
 
 -- the tolerance for a normal: 1e-12 times the largest of its magnitudes and 1
 unfoldable pub tolerance_of : Point → Float
-tolerance_of n = trillionth64 *f largest_of (largest_of (largest_of (magnitude_of (at n 0)) (magnitude_of (at n 1))) (magnitude_of (at n 2))) one64
+tolerance_of n =
+    trillionth64 *f largest_of (largest_of (largest_of (magnitude_of (at n 0)) (magnitude_of (at n 1))) (magnitude_of (at n 2))) one64
 
 -- ---- a vertex and the plane n·x + d = 0
 -- n·p + d

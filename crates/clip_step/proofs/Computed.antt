@@ -6,5 +6,6 @@ use Rattle.clip_step.specs.ClipStep.{trim_from, crossing_at, segment_plane_of, t
 
 -- 'unfolding computed' opens them all
 unfoldable pub computed : Unit {0}
-unfolding of_int of_bits add sub mul div le eq cross2_of crossing_of dot_of distance_of trim_from crossing_at segment_plane_of trimmed_by trimmed_at
+unfolding of_int of_bits add sub mul div le eq cross2_of crossing_of dot_of distance_of trim_from crossing_at segment_plane_of
+    trimmed_by trimmed_at
 computed = tt

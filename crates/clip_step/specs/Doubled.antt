@@ -43,7 +43,8 @@ spaced_of eps (p ∷ ps) = p ∷ spaced_from eps p ps
 
 -- the last point goes where it doubles the first
 unfoldable pub opened_of : Float → List Point → List Point
-opened_of eps ps = cond (ltb 1 (length ps) && le (dist3_of (get_or ps 0 []) (get_or ps (length ps - 1) [])) eps) (take (length ps - 1) ps) ps
+opened_of eps ps =
+    cond (ltb 1 (length ps) && le (dist3_of (get_or ps 0 []) (get_or ps (length ps - 1) [])) eps) (take (length ps - 1) ps) ps
 
 -- the outline without doubled points
 unfoldable pub without_doubled : List Point → List Point

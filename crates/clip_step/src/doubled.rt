@@ -8,6 +8,7 @@ ghost use Rattle.clip_step.specs.Steps.{Sure};
 
 // The sum of the squares of what two points differ by.
 // Ruled out: the squares added in another order, which rounds otherwise; their root.
+#[tactic(auto, unfolding(crate::specs::Doubled::square_of))]
 pub fn square3(a: [f64; 3], b: [f64; 3]) -> f64
     ensures { result ≡ square_of a b }
 {

@@ -16,6 +16,7 @@ ghost use Rattle.work_lists.specs.Steps.{Filled};
 
 // Where the side from a to b crosses a plane, from the distances of its ends. It need not lie between them.
 // Ruled out: t taken from db, or kept between 0 and 1; the point computed from b.
+#[tactic(auto, unfolding(crate::specs::ClipStep::crossing_at, crate::specs::ClipStep::segment_plane_of))]
 pub fn segment_plane_intersection(a: [f64; 3], b: [f64; 3], da: f64, db: f64) -> [f64; 3]
     ensures { result ≡ segment_plane_of a b da db }
 {

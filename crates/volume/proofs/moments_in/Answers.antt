@@ -1,0 +1,27 @@
+-- `volume::moments_in` meets its contract: each pass adds the moments of one face (`Facing`), and the faces one after the other come to all
+-- triangles (`moments_all`).
+use mathlib.Core.Path.{refl}
+use native.Mathlib.Omega.{arith}
+use Rattle.flat.specs.Points.{vertices_of}
+use Rattle.cell.specs.Faces.{faces_of}
+use Rattle.cell.proofs.Faces.{face_start, face_step, face_next, face_end_lem}
+use Rattle.volume.proofs.Passes.{moments_all}
+use borrow.Author.Rules.{rules}
+use Rattle.volume.proofs.moments_in.Goals as goal
+
+pub loop-i-init : goal.loop-i-init
+loop-i-init c =
+    let all = moments_all (vertices_of c.args.coords.now) (faces_of c.args.corners.now c.args.ends.now) in
+    (refl, face_start c.requires.sound.ordered (rw c.requires.refp_value all))
+
+pub face-requires : goal.face-requires
+face-requires c =
+    let step = face_step c.loop-i.invariant.1 (search rules) c.corner-end.ensures.0 in
+    (step.from, step.upto)
+
+pub loop-i-preserved : goal.loop-i-preserved
+loop-i-preserved c =
+    (omega (arith, c.add_face_moments-m.auto.out), face_next c.loop-i.invariant.1 (search rules) c.corner-end.ensures.0 (cc))
+
+pub returns : goal.returns
+returns c = face_end_lem c.loop-i.invariant.1 (search rules)

@@ -1,6 +1,8 @@
 -- x less a whole number o, rounded, and o added back: the sum is exact. Where rounding the difference drops k digits, the sum is a multiple
 -- of 2 ^ k, and it is x itself or has at most `prec` digits above these k. So the sum is x exactly where nothing is lost.
-use Rattle.std.proofs.Common.{◌≡◌, ℕ, suc, ◌+◌, ◌-◌, ◌*◌, ◌^◌, ◌<◌, ◌≤◌, Bool, true, false, T, eqb, [], ◌∷◌, ℤ, pos, ◌+ℤ◌, ◌-ℤ◌, neg_ℤ, nat_abs, sym, refl, ap, ◌∙◌, subst, le_of_eq, lt_of_lt_of_le, lt_of_le_of_lt, mul_assoc, lt_of_mul-lt-mul_right, arith, eqb→eq, pow_mono, pow-add, shl_lt}
+use Rattle.std.proofs.Common.{◌≡◌, ℕ, suc, ◌+◌, ◌-◌, ◌*◌, ◌^◌, ◌<◌, ◌≤◌, Bool, true, false, T, eqb, [], ◌∷◌, ℤ, pos, ◌+ℤ◌, ◌-ℤ◌, neg_ℤ}
+use Rattle.std.proofs.Common.{nat_abs, sym, refl, ap, ◌∙◌, subst, le_of_eq, lt_of_lt_of_le, lt_of_le_of_lt, mul_assoc}
+use Rattle.std.proofs.Common.{lt_of_mul-lt-mul_right, arith, eqb→eq, pow_mono, pow-add, shl_lt}
 use native.Mathlib.Nat.{two-pow-succ}
 use native.Mathlib.Decide.{dec_le}
 use lib.Pow.{pow-lt}
@@ -88,7 +90,8 @@ module _ (f : Format) (x o : Float) (a : ℕ) (few : a + 2 ≤ prec f) (fine : a
 
     nothing_below : Multiple (2 ^ drops) (exact_in f x) → OnGrid f (nat_abs (rounded_to +ℤ exact_in f o))
     nothing_below p =
-        let (n, e) = multiple_sum (2 ^ drops) (exact_in f x) (neg_ℤ (exact_in f o)) p (multiple_neg (2 ^ drops) (exact_in f o) o_multiple) in
+        let (n, e) =
+        multiple_sum (2 ^ drops) (exact_in f x) (neg_ℤ (exact_in f o)) p (multiple_neg (2 ^ drops) (exact_in f o) o_multiple) in
         let l : size (nat_abs exactly) ≤ prec f + drops = cover (size (nat_abs exactly)) (prec f) in
         let n-lt = few_digits (prec f) drops n (nat_abs exactly) e (lt_of_lt_of_le (size-lt (nat_abs exactly)) (pow_mono l)) in
         let back : rounded_to +ℤ exact_in f o ≡ exact_in f x =

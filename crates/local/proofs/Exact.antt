@@ -1,7 +1,8 @@
 -- A coordinate of at most 2 ^ 40 moved by a whole number of at most 2 ^ 40: whether the difference is an f64 is seen by adding the whole
 -- number back, since that sum is exact (proofs/AddedBack.antt). The whole number itself is a coordinate's whole part
 -- (proofs/WholePart.antt).
-use Rattle.std.proofs.Common.{◌≡◌, ℕ, ◌*◌, ◌^◌, ◌<◌, ◌≤◌, Bool, true, false, not, ◌&&◌, T, eqb, ℤ, pos, ◌-ℤ◌, nat_abs, sym, refl, ap, ◌∙◌, subst, le_trans, lt_of_le_of_lt, lit<, lit≤, pow_mono, eq-eqb, eqb-true}
+use Rattle.std.proofs.Common.{◌≡◌, ℕ, ◌*◌, ◌^◌, ◌<◌, ◌≤◌, Bool, true, false, not, ◌&&◌, T, eqb, ℤ, pos, ◌-ℤ◌, nat_abs, sym, refl, ap, ◌∙◌}
+use Rattle.std.proofs.Common.{subst, le_trans, lt_of_le_of_lt, lit<, lit≤, pow_mono, eq-eqb, eqb-true}
 use borrow.Author.Tests.{not-false}
 use lib.IntN.{+ℤ_invr}
 use lib.Ieee.{Float, nan, inf, fin, binary64, neg, le, lt, ne, of_bits, of_int, fits}

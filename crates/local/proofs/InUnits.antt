@@ -1,6 +1,8 @@
 -- A number of a format in units of its smallest value, 2 ^ −low, is a whole number. In units the sum of two numbers is the exact sum of two
 -- whole numbers, rounded once, and two numbers compare equal exactly where their whole numbers are equal.
-use Rattle.std.proofs.Common.{◌≡◌, ℕ, zero, suc, ◌+◌, ◌-◌, ◌*◌, ◌/◌, ◌^◌, ◌<◌, ◌≤◌, Bool, true, false, cond, not, ◌&&◌, ◌||◌, T, eqb, ltb, ◌↔◌, ℤ, pos, ◌+ℤ◌, neg_ℤ, nat_abs, sym, refl, ap, ◌∙◌, subst, le_trans, le_of_eq, le_of_lt, mul-le-mul_right, mul_comm, mul-pos, zero-mul, le_of_mul-le-mul_right, mul-div_cancel, arith, eqb→eq, ltb→lt, nltb→le, pow_pos}
+use Rattle.std.proofs.Common.{◌≡◌, ℕ, zero, suc, ◌+◌, ◌-◌, ◌*◌, ◌/◌, ◌^◌, ◌<◌, ◌≤◌, Bool, true, false, cond, not, ◌&&◌, ◌||◌, T, eqb, ltb}
+use Rattle.std.proofs.Common.{◌↔◌, ℤ, pos, ◌+ℤ◌, neg_ℤ, nat_abs, sym, refl, ap, ◌∙◌, subst, le_trans, le_of_eq, le_of_lt, mul-le-mul_right}
+use Rattle.std.proofs.Common.{mul_comm, mul-pos, zero-mul, le_of_mul-le-mul_right, mul-div_cancel, arith, eqb→eq, ltb→lt, nltb→le, pow_pos}
 use mathlib.Core.Bool.{beq}
 use native.Mathlib.Nat.{mul-sub}
 use native.Mathlib.Nat.{eq_of_mul-eq-mul_right}

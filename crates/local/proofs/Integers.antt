@@ -1,6 +1,7 @@
 -- A whole number is its size with a sign: the sum of two goes by their signs, and the size of a sum is at most the sum of the sizes.
 -- The size of a whole number is its magnitude here; `size` of lib.Ieee counts binary digits.
-use Rattle.std.proofs.Common.{◌≡◌, ℕ, zero, suc, ◌+◌, ◌-◌, ◌*◌, ◌≤◌, Bool, true, false, cond, not, ◌&&◌, T, ltb, ℤ, pos, negsuc, ◌+ℤ◌, ◌-ℤ◌, ◌*ℤ◌, neg_ℤ, nat_abs, sym, refl, ap, ◌∙◌, le_trans, le_refl, zero-mul, arith, le-ltb}
+use Rattle.std.proofs.Common.{◌≡◌, ℕ, zero, suc, ◌+◌, ◌-◌, ◌*◌, ◌≤◌, Bool, true, false, cond, not, ◌&&◌, T, ltb, ℤ, pos, negsuc, ◌+ℤ◌}
+use Rattle.std.proofs.Common.{◌-ℤ◌, ◌*ℤ◌, neg_ℤ, nat_abs, sym, refl, ap, ◌∙◌, le_trans, le_refl, zero-mul, arith, le-ltb}
 use native.Mathlib.Decide.{dec_le}
 use lib.IntN.{sub_ℕ, neg_ℤ-+ℤ, +ℤ_comm}
 use Rattle.exact.specs.Scaled.{signed}

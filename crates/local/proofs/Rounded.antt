@@ -1,6 +1,8 @@
 -- What rounding does to a whole number of units: its `prec` leading digits are kept, and k are dropped. So the result is a multiple of
 -- 2 ^ k and off by at most 2 ^ k, and a whole number of at most `prec` digits is not rounded at all.
-use Rattle.std.proofs.Common.{◌≡◌, ℕ, suc, ◌+◌, ◌-◌, ◌*◌, ◌/◌, ◌%◌, ◌^◌, ◌<◌, ◌≤◌, Bool, T, ℤ, ◌+ℤ◌, ◌-ℤ◌, nat_abs, sym, ap, ◌∙◌, subst, le_trans, le_of_eq, lt_of_le_of_lt, mul-le-mul_right, mul_assoc, mul-pos, div-mul-le_self, mul-div_cancel, arith, pow_pos, pow-add}
+use Rattle.std.proofs.Common.{◌≡◌, ℕ, suc, ◌+◌, ◌-◌, ◌*◌, ◌/◌, ◌%◌, ◌^◌, ◌<◌, ◌≤◌, Bool, T, ℤ, ◌+ℤ◌, ◌-ℤ◌, nat_abs, sym, ap, ◌∙◌, subst}
+use Rattle.std.proofs.Common.{le_trans, le_of_eq, lt_of_le_of_lt, mul-le-mul_right, mul_assoc, mul-pos, div-mul-le_self, mul-div_cancel}
+use Rattle.std.proofs.Common.{arith, pow_pos, pow-add}
 use Prim.Native.Nat.{compare}
 use native.Mathlib.Nat.{lt-div-mul-add}
 use lib.Pow.{pow-lt}

@@ -1,6 +1,9 @@
 -- The whole part of a number, towards zero, is the quotient of its numerator and its denominator, with its sign. Up to 2 ^ prec that is a
 -- number of the format, exactly, and the fraction that is dropped is less than 1.
-use Rattle.std.proofs.Common.{◌≡◌, ℕ, zero, suc, ◌+◌, ◌-◌, ◌*◌, ◌/◌, ◌^◌, ◌<◌, ◌≤◌, min, Bool, true, false, ◌&&◌, ◌||◌, T, eqb, ltb, ℤ, pos, ◌-ℤ◌, neg_ℤ, nat_abs, sym, ap, ◌∙◌, true≢false, le_trans, le_of_eq, lt_of_le_of_lt, le_of_lt, mul-le-mul_right, lt_of_mul-lt-mul_right, mul-lt-mul_of_pos_right, mul-pos, zero-mul, div-mul-le_self, le_of_mul-le-mul_right, arith, pow_pos, pow_mono, le-ltb, lt-ltb, eq-eqb}
+use Rattle.std.proofs.Common.{◌≡◌, ℕ, zero, suc, ◌+◌, ◌-◌, ◌*◌, ◌/◌, ◌^◌, ◌<◌, ◌≤◌, min, Bool, true, false, ◌&&◌, ◌||◌, T, eqb, ltb, ℤ}
+use Rattle.std.proofs.Common.{pos, ◌-ℤ◌, neg_ℤ, nat_abs, sym, ap, ◌∙◌, true≢false, le_trans, le_of_eq, lt_of_le_of_lt, le_of_lt}
+use Rattle.std.proofs.Common.{mul-le-mul_right, lt_of_mul-lt-mul_right, mul-lt-mul_of_pos_right, mul-pos, zero-mul, div-mul-le_self}
+use Rattle.std.proofs.Common.{le_of_mul-le-mul_right, arith, pow_pos, pow_mono, le-ltb, lt-ltb, eq-eqb}
 use native.Mathlib.Nat.{lt-div-mul-add, div-eq_of_lt}
 use native.Mathlib.Decide.{dec_le}
 use lib.Pow.{pow-lt}

@@ -1,6 +1,6 @@
 -- Chains of sides, for `link_side`, `link_face` and `link_faces`: a side that is put before the first of a chain leaves every chain as it
 -- was, since the places of a chain lie before it.
-use mathlib.Core.Path.{◌≡◌, refl, sym, subst, ◌∙◌}
+use mathlib.Core.Path.{◌≡◌, refl, sym, ap, subst, ◌∙◌}
 use mathlib.Core.Logic.{◌≢◌}
 use mathlib.Core.List.{List, [], ◌∷◌}
 use Prim.Native.Nat.{ℕ, ◌+◌, ◌-◌, ◌<◌, ◌≤◌}
@@ -80,7 +80,7 @@ pub lists_one : {head next other : List ℕ} {s m y : ℕ} (a b : ℕ) (l : List
 lists_one {head} {next} {other} {s} {m} {y} a b l k h g d n p q t = lists_more k h m y g d l (push a b l) here there t
   where
     here : codes_at m (push a b l) ≡ y ∷ codes_at m l
-    here = rw (p, q, ne_eqb a b n, eq-eqb (lower_of a b) (lower_of a b) refl)
+    here = rw (p, q, ne_eqb a b n, eq-eqb (lower_of a b) (lower_of a b) refl) (ap (λ (i : ℕ). code_of a b ∷ codes_at i l) p)
 
     there : (i : ℕ) → i ≢ m → codes_at i (push a b l) ≡ codes_at i l
     there i e = rw (ne_eqb a b n, ne_eqb (lower_of a b) i (λ z. e (sym (p ∙ z))))

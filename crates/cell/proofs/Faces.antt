@@ -83,7 +83,8 @@ module _ {test : List ℕ → Bool} {c es : List ℕ} {whole : Bool} where
   pub faces_step : {p k e : ℕ} → FaceAsking test c es whole p k → k < length es → e ≡ get_or es k 0 → Step p es (length c) k e
   faces_step {p} {k} {e} l h q = rises_more p es (length c) k e h q l.ordered
 
-  pub faces_yes : {p k e : ℕ} → FaceAsking test c es whole p k → k < length es → e ≡ get_or es k 0 → test (slice p e c) ≡ true → true ≡ whole
+  pub faces_yes : {p k e : ℕ} → FaceAsking test c es whole p k → k < length es → e ≡ get_or es k 0 → test (slice p e c) ≡ true
+      → true ≡ whole
   unfolding any_of
   faces_yes {p} {k} {e} l h q g = sym (rw (faces_more p c es k h, ← q, g)) ∙ l.so
 
@@ -145,7 +146,8 @@ pub face_at : (c es : List ℕ) (k : ℕ) → k < length es → get_or (faces_of
 unfolding faces_of
 face_at c es k h = from_at 0 c es k h
 
-pub rises_at : (p : ℕ) (es : List ℕ) (n k : ℕ) → k < length es → T (rises p es n) → (get_or (p ∷ es) k 0 ≤ get_or es k 0) × (get_or es k 0 ≤ n)
+pub rises_at : (p : ℕ) (es : List ℕ) (n k : ℕ) → k < length es → T (rises p es n)
+    → (get_or (p ∷ es) k 0 ≤ get_or es k 0) × (get_or es k 0 ≤ n)
 rises_at p [] n k h t = absurd (omega arith)
 rises_at p (e ∷ es) n zero h t = (leb→le p e (and_l (leb p e) (rises e es n) t), rises_le e es n (and_r (leb p e) (rises e es n) t))
 rises_at p (e ∷ es) n (suc k) h t = rises_at e es n k (omega arith) (and_r (leb p e) (rises e es n) t)

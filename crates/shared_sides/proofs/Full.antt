@@ -3,7 +3,7 @@ use mathlib.Core.Path.{◌≡◌, refl, sym, ◌∙◌, ap}
 use mathlib.Core.Logic.{◌≢◌}
 use mathlib.Core.Bool.{Bool, true, false, not, cond}
 use mathlib.Core.List.{List, [], ◌∷◌, ◌++◌}
-use Prim.Native.Nat.{ℕ, ◌+◌, ◌*◌, ◌<◌, ◌≤◌}
+use Prim.Native.Nat.{ℕ, ◌*◌, ◌<◌, ◌≤◌}
 use native.Mathlib.Decide.{ℕ_discrete, dec_lt}
 use native.Mathlib.Omega.{arith}
 use lib.Dec.{eqb}
@@ -150,7 +150,8 @@ pub unfit_crowded : (fs : List (List ℕ)) → any_of (strange fs) (all_sides fs
 unfolding unfit
 unfit_crowded fs e = rw e
 
-pub unfit_else : (fs : List (List ℕ)) {d : Bool} → any_of (strange fs) (all_sides fs) ≡ false → d ≡ any_of doubled fs → not d ≡ not (unfit fs)
+pub unfit_else : (fs : List (List ℕ)) {d : Bool} → any_of (strange fs) (all_sides fs) ≡ false → d ≡ any_of doubled fs
+    → not d ≡ not (unfit fs)
 unfolding unfit
 unfit_else fs e q = rw (e, q)
 

@@ -4,7 +4,7 @@ use mathlib.Core.Path.{◌≡◌, refl, sym, ◌∙◌, ap}
 use mathlib.Core.Logic.{◌≢◌}
 use mathlib.Core.Bool.{Bool, true, false, not, ◌&&◌, beq, cond}
 use mathlib.Core.List.{List, [], ◌∷◌, ◌++◌}
-use Prim.Native.Nat.{ℕ, zero, suc, ◌+◌, ◌-◌, ◌<◌, ◌≤◌}
+use Prim.Native.Nat.{ℕ, zero, suc, ◌+◌, ◌<◌, ◌≤◌}
 use native.Mathlib.Omega.{arith}
 use lib.Dec.{eqb, ltb, leb}
 use lib.ListN.{length, get_or}
@@ -68,7 +68,8 @@ given_none false = refl
 
 module _ (p : ℕ → Bool) {i j : ℕ} (apart : i ≢ j) where
   tally_at : (f : ℕ) (e : ℕ × ℕ)
-      → tally p (mark_at i j f e) ≡ given (p (mark_of f false)) (one_if (from_to i j e)) + given (p (mark_of f true)) (one_if (from_to j i e))
+      → tally p (mark_at i j f e)
+      ≡ given (p (mark_of f false)) (one_if (from_to i j e)) + given (p (mark_of f true)) (one_if (from_to j i e))
   tally_at f e = go (from_to i j e) (from_to j i e) refl refl
     where
       go : (a b : Bool) → from_to i j e ≡ a → from_to j i e ≡ b → tally p (cond a (mark_of f false ∷ []) (cond b (mark_of f true ∷ []) []))

@@ -54,7 +54,8 @@ module _ {In : ℕ → Type 0} {at : ℕ → ℕ → ℕ} {n : ℕ} (tells : Tel
   set_here : {a b : ℕ} → In a → In b → get_or (set t (at a b) m) (at a b) 0 ≡ m
   set_here {a} {b} ha hb = get_or-set_same t (at a b) m 0 (omega (arith, tells.within ha hb))
 
-  set_else : {a b x y : ℕ} → In a → In b → In x → In y → ((a ≡ x) × (b ≡ y) → ⊥) → get_or (set t (at a b) m) (at x y) 0 ≡ get_or t (at x y) 0
+  set_else : {a b x y : ℕ} → In a → In b → In x → In y → ((a ≡ x) × (b ≡ y) → ⊥)
+      → get_or (set t (at a b) m) (at x y) 0 ≡ get_or t (at x y) 0
   set_else {a} {b} {x} {y} ha hb hx hy k = get_or-set_other t (at a b) (at x y) m 0 (λ e. k (tells.apart ha hb hx hy (sym e)))
 
   -- both entries of a pair are as they were

@@ -1,7 +1,8 @@
 -- What functions below the gatehouse ask of and promise each other; no contract of a public entry speaks of these.
 -- The marks that faces leave at their sides: `at` says which entry of the table is that for a row and a column,
 -- and In which vertices have one.
-use Rattle.std.specs.Prelude.{◌≡◌, Bool, true, false, not, ◌&&◌, cond, List, [], ◌∷◌, ◌++◌, ℕ, suc, ◌+◌, ◌*◌, ◌-◌, ◌<◌, ◌≤◌, eqb, ltb, length, get_or}
+use Rattle.std.specs.Prelude.{◌≡◌, Bool, true, false, not, ◌&&◌, cond, List, [], ◌∷◌, ◌++◌, ℕ, suc, ◌+◌, ◌*◌, ◌-◌, ◌<◌, ◌≤◌, eqb, ltb}
+use Rattle.std.specs.Prelude.{length, get_or}
 use Rattle.std.specs.Bool.{beq}
 use Rattle.places.specs.Loops.{any_of, one_if}
 use Rattle.places.specs.Ring.{sides}
@@ -101,7 +102,8 @@ pub record Pair (fs : List (List ℕ)) (i j x y : ℕ) : Type 0 where
       → count i j (sides (face_by back (get_or fs g [])))
       ≡ one_if (eqb (face_of x) g && runs_up back x) + one_if (eqb (face_of y) g && runs_up back y)
   pub ups : (c : ℕ → Bool) → runs i j (reversed_by c fs) ≡ one_if (runs_up (c (face_of x)) x) + one_if (runs_up (c (face_of y)) y)
-  pub downs : (c : ℕ → Bool) → runs j i (reversed_by c fs) ≡ one_if (not (runs_up (c (face_of x)) x)) + one_if (not (runs_up (c (face_of y)) y))
+  pub downs : (c : ℕ → Bool)
+      → runs j i (reversed_by c fs) ≡ one_if (not (runs_up (c (face_of x)) x)) + one_if (not (runs_up (c (face_of y)) y))
 
 -- the table holds the two marks of each side that occurs
 pub record Mates (In : ℕ → Type 0) (at : ℕ → ℕ → ℕ) (t : List ℕ) (fs : List (List ℕ)) : Type 0 where

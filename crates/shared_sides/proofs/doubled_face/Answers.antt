@@ -1,0 +1,26 @@
+-- `shared_sides::doubled_face` meets its contract: the corners passed have the face's stamp and no others have, so one that has it comes
+-- twice.
+use native.Mathlib.Omega.{arith}
+use borrow.Author.Rules.{rules}
+use Prim.Native.Nat.{◌<◌}
+use mathlib.Core.Path.{refl}
+use Rattle.side_table.proofs.Corners.{each_at}
+use Rattle.shared_sides.proofs.Stamps.{stamp_start, stamp_yes, stamp_no, stamp_end}
+use Rattle.shared_sides.proofs.doubled_face.Goals as goal
+
+pub loop-i-init : goal.loop-i-init
+loop-i-init c =
+    (refl, stamp_start _ c.requires.stamp_len.1)
+
+pub returns-then-stamp-x : goal.returns-then-stamp-x
+returns-then-stamp-x c =
+    (stamp_yes c.loop-i.invariant.1 (omega arith) c.corner-x.ensures.0 c.if-stamp-x.true, c.loop-i.invariant.1.fresh)
+
+pub loop-i-preserved : goal.loop-i-preserved
+loop-i-preserved c =
+    let below : c.corner-x.result < 256 = each_at _ c.requires.each (omega arith) c.corner-x.ensures.0 in
+    (search rules, stamp_no c.loop-i.invariant.1 (omega arith) c.corner-x.ensures.0 (omega arith) c.if-stamp-x.false)
+
+pub returns : goal.returns
+returns c =
+    (stamp_end c.loop-i.invariant.1 (omega arith), c.loop-i.invariant.1.fresh)

@@ -1,7 +1,7 @@
 /* Cuts a face and tells how many tests that took; then checks our own triangles against the face, and the same with one
  * triangle turned round. At the top of the repository:
  *
- *     rt staticlib abi
+ *     rust/archive
  *     gcc -Iinclude examples/check.c target/staticlib/libabi.a -o check
  *     ./check
  */

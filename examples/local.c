@@ -1,7 +1,7 @@
 /* Moves a thin box that stands far from the origin to a local origin, exactly, and shows what that mends. At the top
  * of the repository:
  *
- *     rt staticlib abi
+ *     rust/archive
  *     gcc -Iinclude examples/local.c target/staticlib/libabi.a -o local
  *     ./local
  */

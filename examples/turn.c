@@ -1,7 +1,7 @@
 /* Turns the backward face of a cube, and shows what happens to a cube with a face too few. At the top of the
  * repository:
  *
- *     rt staticlib abi
+ *     rust/archive
  *     gcc -Iinclude examples/turn.c target/staticlib/libabi.a -o turn
  *     ./turn
  */

@@ -1,6 +1,6 @@
 /* Prints the volume of the unit cube, and shows what a refusal is. At the top of the repository:
  *
- *     rt staticlib abi
+ *     rust/archive
  *     gcc -Iinclude examples/volume.c target/staticlib/libabi.a -o volume
  *     ./volume
  */

@@ -1,6 +1,6 @@
 /* Wegrusamt under C names: cells with flat faces, measured as docs/SCOPE.md says, every function proved.
  *
- * Link with the archive that `rt staticlib abi` builds (target/staticlib/libabi.a); no other library is needed,
+ * Link with the archive that `rust/archive` builds (target/staticlib/libabi.a); no other library is needed,
  * not even -lm. examples/volume.c is a program that does so.
  *
  * Lists. A list is a pointer and then its length in elements; an element is one number, save in the list that

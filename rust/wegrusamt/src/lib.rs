@@ -15,7 +15,7 @@
 //! # Ok::<(), wegrusamt::Refusal>(())
 //! ```
 //!
-//! The functions come from the archive that `rt staticlib abi` proves and builds; `WEGRUSAMT_LIB`
+//! The functions come from the archive that `rust/archive` proves and builds; `WEGRUSAMT_LIB`
 //! names its folder where it is not `target/staticlib` of the repository. This crate adds types and
 //! borrows: what the C header asks of a caller, that pointers are good and lists do not overlap,
 //! holds for every safe call. Points are arrays, so that no list can end in the middle of one.

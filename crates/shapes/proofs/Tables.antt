@@ -14,14 +14,16 @@ use Rattle.floats.specs.F64.{zero64}
 use Rattle.exact.specs.Sides.{closed_of}
 use Rattle.flat.specs.Points.{Point, vertices_of}
 use Rattle.flat.specs.Steps.{Inside}
-use Rattle.cell.specs.Refusals.{first_row, out_of_range, points_refused, size_refused, number_refused, ends_refused, index_refused, refusal_of}
+use Rattle.cell.specs.Refusals.{first_row, out_of_range, points_refused, size_refused}
+use Rattle.cell.specs.Refusals.{number_refused, ends_refused, index_refused, refusal_of}
 use Rattle.cell.specs.Steps.{Sound}
 use Rattle.cell.proofs.Refusals.{sound, any_none, all_below}
 use Rattle.shapes.specs.Tables.{tet4_faces, wedge6_tet, wedge6_tri_faces, wedge6_quad_faces, hex8_faces, hex8_tet}
 
 -- 'unfolding tested' opens every definition on the way to these tests
 unfoldable pub tested : Unit {0}
-unfolding of_bits neg le any_of in_threes first_row out_of_range points_refused size_refused number_refused ends_refused index_refused refusal_of
+unfolding of_bits neg le any_of in_threes first_row out_of_range points_refused size_refused
+    number_refused ends_refused index_refused refusal_of
 tested = tt
 
 -- a number of the table is not below n

@@ -13,7 +13,8 @@ use Rattle.shapes.specs.Shapes.{hex_contains_of}
 
 -- 'unfolding computed' opens every definition on the way to an answer
 unfoldable pub computed : Unit {0}
-unfolding Inside.computed minus_of triple_of tet_volume_of tet_by volume_by wedge_volume_of hex_volume_of tet_contains_of wedge_contains_of hex_contains_of
+unfolding Inside.computed minus_of triple_of tet_volume_of tet_by volume_by wedge_volume_of hex_volume_of
+    tet_contains_of wedge_contains_of hex_contains_of
 computed = tt
 
 abbrev pub point : Float → Float → Float → Point

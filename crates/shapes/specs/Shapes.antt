@@ -15,7 +15,8 @@ tet_volume_of a b c d = triple_of (minus_of 3 b a) (minus_of 3 c a) (minus_of 3 
 -- the volume of the tetrahedron whose corners have the numbers of a row
 unfoldable pub tet_by : List Point → List ℕ → Float
 tet_by ps row =
-    tet_volume_of (vertex_of ps (get_or row 0 0)) (vertex_of ps (get_or row 1 0)) (vertex_of ps (get_or row 2 0)) (vertex_of ps (get_or row 3 0))
+    tet_volume_of
+    (vertex_of ps (get_or row 0 0)) (vertex_of ps (get_or row 1 0)) (vertex_of ps (get_or row 2 0)) (vertex_of ps (get_or row 3 0))
 
 abbrev pub add_tet : List Point → List ℕ → Float → Float
 add_tet ps row v = v +f tet_by ps row

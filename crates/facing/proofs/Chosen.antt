@@ -20,11 +20,11 @@ use Rattle.facing.proofs.Going.{going_made, closes_if}
 use Rattle.facing.proofs.Rounds.{clash_closed, closed_clash}
 
 -- ---- what the pairing says of the conditions
-pub failed : (r b : Bool) → r ≡ not b → not r ≡ true → b ≡ true
-failed r b e t = not-false b (sym e ∙ not-true r t)
+pub failed : (r b : Bool) → r ≡ not b → r ≡ false → b ≡ true
+failed r b e t = not-false b (sym e ∙ t)
 
-pub passed : (r b : Bool) → r ≡ not b → not r ≡ false → (b ≡ false) × (r ≡ true)
-passed r b e t = let y = not-false r t in (not-true b (sym e ∙ y), y)
+pub passed : (r b : Bool) → r ≡ not b → r ≡ true → b ≡ false
+passed r b e t = not-true b (sym e ∙ t)
 
 -- ---- a condition fails
 pub chosen_unfit : (fs : List (List ℕ)) (t : List ℕ) → unfit fs ≡ true → Chosen fs t 11

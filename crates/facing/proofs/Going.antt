@@ -68,7 +68,8 @@ module _ (t : List ℕ) (k w : ℕ) (hk : k < length t) (un : get_or t k 0 ≡ 0
           go (yes e) = rw e (l (rw (e, at_k) at p))
           go (no n) = g.low f (rw (at_other f n) at p)
 
-      forced : (d : ℕ → Bool) → Closed (reversed_by d fs) → (a b : ℕ) → 0 < get_or (set t k w) a 0 → 0 < get_or (set t k w) b 0 → Group fs a b
+      forced : (d : ℕ → Bool) → Closed (reversed_by d fs) → (a b : ℕ) → 0 < get_or (set t k w) a 0 → 0 < get_or (set t k w) b 0
+          → Group fs a b
           → differ (code_choice (set t k w) a) (d a) ≡ differ (code_choice (set t k w) b) (d b)
       forced d closes a b p q j = go (reached_cases a p) (reached_cases b q)
         where

@@ -94,7 +94,8 @@ module _ {fs : List (List ℕ)} {t list : List ℕ} {low head tail : ℕ} (s : S
           absurd (omega (arith, p.has_is g))
 
   -- x is the mark of the asking face f, which, reversed where `back`, runs the side up
-  module _ (tw : Twice fs) (i j x y f : ℕ) (back up : Bool) (apart : i ≢ j) (p : Pair fs i j x y) (hf : 0 < get_or t f 0) (own : face_of x ≡ f)
+  module _ (tw : Twice fs) (i j x y f : ℕ) (back up : Bool) (apart : i ≢ j) (p : Pair fs i j x y) (hf : 0 < get_or t f 0)
+      (own : face_of x ≡ f)
       (run : 0 < count i j (sides (face_by back (get_or fs f [])))) (way : up ≡ beq (code_choice t f) back) where
     self : (g : ℕ) → one_if (eqb (face_of g) (face_of g)) ≡ 1
     self g = rw (eq-eqb (face_of g) (face_of g) refl)

@@ -1,7 +1,6 @@
 -- The loop that reverses faces by their codes, each in its own stretch of the corner list, and counts those that it reverses:
 -- with the corners before the face k and the faces from k on, as their codes have them, the list is the whole one.
 use mathlib.Core.Path.{◌≡◌, refl, sym, ◌∙◌, ap}
-use mathlib.Core.Bool.{Bool, true, false}
 use mathlib.Core.List.{List, [], ◌∷◌, ◌++◌, append_assoc, append-nil}
 use Prim.Native.Nat.{ℕ, suc, ◌+◌, ◌-◌, ◌<◌, ◌≤◌}
 use native.Mathlib.Omega.{arith}

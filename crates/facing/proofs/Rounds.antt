@@ -154,7 +154,8 @@ module _ {fs : List (List ℕ)} {t list : List ℕ} {low head tail f w : ℕ} wh
 
   -- the face has asked over one more side
   module _ {i : ℕ} (r : Round fs t list low head tail f w i) where
-    on : (t' : List ℕ) → ((m : ℕ) → 0 < get_or t m 0 → get_or t' m 0 ≡ get_or t m 0) → (p q : ℕ) → Reached-over fs t p q → Reached-over fs t' p q
+    on : (t' : List ℕ) → ((m : ℕ) → 0 < get_or t m 0 → get_or t' m 0 ≡ get_or t m 0) → (p q : ℕ) → Reached-over fs t p q
+        → Reached-over fs t' p q
     on t' codes p q h ne g u = rw (codes g (h ne g u)) (h ne g u)
 
     round_moved : {t' list' : List ℕ} {tail' : ℕ} (p q : ℕ) → Moved fs t list low head tail t' list' tail' p q
@@ -257,7 +258,8 @@ module _ {number table corners ends t list : List ℕ} {k low head tail f w i a 
 
   -- `meet` may be called with the neighbour's mark
   pub meet_ready : {m : ℕ} → m ≡ neighbour
-      → ((0 < m → face_of m < length t) × (length t ≤ 256)) × ((0 < m → get_or t (face_of m) 0 ≡ 0 → tail < length list) × (length list ≤ 256))
+      → ((0 < m → face_of m < length t) × (length t ≤ 256))
+      × ((0 < m → get_or t (face_of m) 0 ≡ 0 → tail < length list) × (length list ≤ 256))
   meet_ready e =
       let n = length_faces corners ends in
       let codes = r.spread.codes in

@@ -395,7 +395,8 @@ fn choose_256(number: &[u16], k: usize, corners: &[u32], ends: &[u32], code: &mu
 // Ruled out: 12 for a cell that some choice closes; a choice that reverses the lowest face of a group.
 pub fn choose(corners: &[u32], ends: &[u32], v: usize, code: &mut [u8]) -> u8
     requires each { Each 0 (λ c. c < v) corners.now × (v ≤ most_vertices) }
-    requires corners_len_bound { (length corners.now ≤ most_corners) × T (rises 0 ends.now (length corners.now)) × (length ends.now ≤ most_faces) }
+    requires corners_len_bound { (length corners.now ≤ most_corners) × T (rises 0 ends.now (length corners.now))
+        × (length ends.now ≤ most_faces) }
     requires blank { Blank code.old × (length code.old ≡ length ends.now) }
     ensures { Chosen (faces_of corners.now ends.now) code.new result }
 {
@@ -420,7 +421,8 @@ pub fn choose(corners: &[u32], ends: &[u32], v: usize, code: &mut [u8]) -> u8
 // Ruled out: 12 before 11; a refusal of a cell that is closed already.
 pub fn refusal(corners: &[u32], ends: &[u32], v: usize) -> u8
     requires each { Each 0 (λ c. c < v) corners.now × (v ≤ most_vertices) }
-    requires corners_len_bound { (length corners.now ≤ most_corners) × T (rises 0 ends.now (length corners.now)) × (length ends.now ≤ most_faces) }
+    requires corners_len_bound { (length corners.now ≤ most_corners) × T (rises 0 ends.now (length corners.now))
+        × (length ends.now ≤ most_faces) }
     ensures { result ≡ reversal_refusal (faces_of corners.now ends.now) }
 {
     let n = ends.len();

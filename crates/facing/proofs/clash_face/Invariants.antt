@@ -1,0 +1,17 @@
+use Prim.Native.Nat.{◌-◌}
+use mathlib.Core.List.{[]}
+use lib.ListN.{get_or}
+use Rattle.places.specs.Ring.{sides}
+use Rattle.places.proofs.Loops.{Asking}
+use Rattle.cell.specs.Faces.{faces_of}
+use Rattle.side_table.specs.Numbers.{entry_of}
+use Rattle.facing.specs.Steps.{clash, clash_face}
+use Rattle.facing.proofs.clash_face.Given as goal
+
+abbrev pub invariant-loop-i : goal.invariant-loop-i
+invariant-loop-i l =
+    Asking (clash (entry_of l.number l.k) l.table l.code) (sides (get_or (faces_of l.corners l.ends) l.f []))
+    (clash_face (entry_of l.number l.k) l.table l.code (get_or (faces_of l.corners l.ends) l.f [])) l.i
+
+abbrev pub decreases-loop-i : goal.decreases-loop-i
+decreases-loop-i l = l.n - l.i

@@ -1,0 +1,25 @@
+-- `facing::step` meets its contract: after `seed` a face waits in the list, and `ask` lets that one ask.
+use native.Mathlib.Omega.{arith}
+use Rattle.cell.specs.Faces.{faces_of}
+use Rattle.cell.proofs.Faces.{length_faces}
+use Rattle.facing.proofs.step.Goals as goal
+
+pub seed-ready-requires : goal.seed-ready-requires
+seed-ready-requires c =
+    record {
+      fs = faces_of c.args.corners.now c.args.ends.now;
+      spread = c.requires.spread.0;
+      few = omega (arith, c.requires.ground.few_faces, length_faces c.args.corners.now c.args.ends.now);
+      some = omega (arith, c.requires.spread.1, length_faces c.args.corners.now c.args.ends.now);
+    }
+
+pub ask-requires : goal.ask-requires
+ask-requires c =
+    record {
+      ground = c.requires.ground;
+      spread = (
+        c.seed-ready.ensures.spread (faces_of c.args.corners.now c.args.ends.now) c.requires.spread.0
+            (omega (arith, c.requires.spread.1, length_faces c.args.corners.now c.args.ends.now)),
+        c.seed-ready.ensures.waits,
+      );
+    }

@@ -163,10 +163,7 @@ pub fn find_corner(ps: &[[f64; 2]], dir: f64) -> Choice
 {
     let n = ps.len();
     let ear = find_ear(ps, dir);
-    let first = match ear {
-        places::Found::At(k) => tried(n, places::Found::At(k)),
-        places::Found::Nothing => tried(n, places::Found::Nothing),
-    };
+    let first = tried(n, ear);
     if let places::Found::At(k) = ear {
         return Choice {
             corner: places::Found::At(k),
@@ -174,10 +171,7 @@ pub fn find_corner(ps: &[[f64; 2]], dir: f64) -> Choice
         };
     }
     let turn = find_turn(ps, dir);
-    let second = match turn {
-        places::Found::At(k) => tried(n, places::Found::At(k)),
-        places::Found::Nothing => tried(n, places::Found::Nothing),
-    };
+    let second = tried(n, turn);
     Choice {
         corner: turn,
         tests: first + second,

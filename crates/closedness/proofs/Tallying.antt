@@ -29,7 +29,8 @@ pub record Rising (n : ℕ) (t₀ : List ℕ) (h : ℕ) (t : List ℕ) : Type 0 
   pub size : length t ≡ 512
   pub most : (c : ℕ) → get_or t c 0 + h ≤ get_or t₀ c 0 + n
 
-pub rising_more : {n h h' c : ℕ} {t₀ t t' : List ℕ} → Rising n t₀ h t → c < 512 → h' < h → t' ≡ set t c (get_or t c 0 + 1) → Rising n t₀ h' t'
+pub rising_more : {n h h' c : ℕ} {t₀ t t' : List ℕ} → Rising n t₀ h t → c < 512 → h' < h → t' ≡ set t c (get_or t c 0 + 1)
+    → Rising n t₀ h' t'
 rising_more {n} {h} {h'} {c} {t₀} {t} {t'} r g d e =
     let within : c < length t = omega (arith, r.size) in
     record {
@@ -68,7 +69,8 @@ module _ {next other : List ℕ} {h : ℕ} {cs t₀ t : List ℕ} where
   pub rest_end : Rest next other h cs t₀ t → h ≡ 0 → Tallied cs t₀ t
   rest_end r z = go r.left r.chain r.so
     where
-      go : (l : List ℕ) → Chain next other h l → ((j : ℕ) → j < 512 → get_or t j 0 + times j l ≡ get_or t₀ j 0 + times j cs) → Tallied cs t₀ t
+      go : (l : List ℕ) → Chain next other h l → ((j : ℕ) → j < 512 → get_or t j 0 + times j l ≡ get_or t₀ j 0 + times j cs)
+          → Tallied cs t₀ t
       go [] k s = record { counts = λ j b. omega (arith, s j b) }
       go (x ∷ l) k s = let above : 0 < h = k.0 in absurd (omega arith)
 

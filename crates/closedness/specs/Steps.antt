@@ -1,6 +1,7 @@
 -- What functions below the gatehouse ask of and promise each other; no contract of a public entry speaks of these.
 -- Here the chains of sides, for each vertex a chain of the sides that have it as their lower end, and the tally that is kept along a chain.
-use Rattle.std.specs.Prelude.{◌≡◌, ◌≢◌, Bool, true, false, not, ◌&&◌, cond, List, [], ◌∷◌, ℕ, zero, suc, ◌+◌, ◌-◌, ◌<◌, ◌≤◌, eqb, ltb, length, get_or}
+use Rattle.std.specs.Prelude.{◌≡◌, ◌≢◌, Bool, true, false, not, ◌&&◌, cond, List, [], ◌∷◌, ℕ, zero, suc, ◌+◌, ◌-◌, ◌<◌, ◌≤◌, eqb, ltb}
+use Rattle.std.specs.Prelude.{length, get_or}
 use Rattle.places.specs.Limits.{most_vertices, most_corners}
 use Rattle.places.specs.Loops.{fold_list, one_if}
 use Rattle.places.specs.Ring.{fold_sides}

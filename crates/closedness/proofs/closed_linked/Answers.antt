@@ -8,7 +8,11 @@ use Rattle.closedness.proofs.closed_linked.Goals as goal
 
 pub link_faces-requires : goal.link_faces-requires
 link_faces-requires c =
-    record { links = (links_start c.requires.unlinked.0, c.requires.unlinked.1); each = (each_below 256 c.requires.each.0 c.requires.each.1, c.requires.each.2) }
+    record {
+      links = (links_start c.requires.unlinked.0, c.requires.unlinked.1);
+      each =
+          (each_below 256 c.requires.each.0 c.requires.each.1, c.requires.each.2);
+    }
 
 pub even_chains-requires : goal.even_chains-requires
 even_chains-requires c =
@@ -16,4 +20,5 @@ even_chains-requires c =
 
 pub returns : goal.returns
 returns c =
-    even_closed _ _ c.requires.each.0 c.requires.each.1 c.even_chains.result (c.even_chains.ensures _ (c.link_faces.ensures.gains _ lists_start))
+    even_closed _ _ c.requires.each.0 c.requires.each.1 c.even_chains.result
+    (c.even_chains.ensures _ (c.link_faces.ensures.gains _ lists_start))

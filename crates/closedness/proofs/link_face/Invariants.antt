@@ -11,7 +11,8 @@ invariant-loop-i l =
     (l.n ≡ length l.face) × (l.i ≤ l.n) × (length l.head ≡ length l.initial.head) × (length l.next ≡ length l.initial.next)
     × (length l.other ≡ length l.initial.other) ×
     Links l.head l.next l.other (l.s + l.i) ×
-    ((gone : List (ℕ × ℕ)) → Lists l.initial.head l.initial.next l.initial.other gone → FaceLinked (Lists l.head l.next l.other) l.face gone l.i)
+    ((gone : List (ℕ × ℕ)) → Lists l.initial.head l.initial.next l.initial.other gone → FaceLinked (Lists l.head l.next l.other) l.face gone
+    l.i)
 
 abbrev pub decreases-loop-i : goal.decreases-loop-i
 decreases-loop-i l = l.n - l.i

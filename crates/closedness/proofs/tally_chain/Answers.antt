@@ -19,10 +19,15 @@ loop-h-preserved c =
       omega (arith, c.raise-gap.ensures.2),
       rising_more c.loop-h.invariant.3 (code_below (goal.at.loop-h-preserved c).After-read) less c.raise-gap.ensures.0,
       λ cs k.
-          rest_more (c.loop-h.invariant.4 cs k) c.loop-h-test.true c.loop-h.invariant.3.size (code_below (goal.at.loop-h-preserved c).After-read) c.read.ensures
+          rest_more (c.loop-h.invariant.4 cs k) c.loop-h-test.true c.loop-h.invariant.3.size
+          (code_below (goal.at.loop-h-preserved c).After-read) c.read.ensures
           c.read-h.ensures c.raise-gap.ensures.0,
     )
 
 pub returns : goal.returns
 returns c =
-    record { value = (c.loop-h.invariant.1, rising_end c.loop-h.invariant.3); by_index = λ cs k. rest_end (c.loop-h.invariant.4 cs k) (omega arith) }
+    record {
+      value = (c.loop-h.invariant.1, rising_end c.loop-h.invariant.3);
+      by_index = λ cs k. rest_end (c.loop-h.invariant.4 cs k)
+          (omega arith);
+    }

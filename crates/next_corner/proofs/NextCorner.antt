@@ -15,11 +15,11 @@ use Rattle.next_corner.specs.NextCorner.{find_corner, find_ear, find_turn, ear_a
 
 module _ (ps : List Point) (dir : Float) where
   -- what a pass takes is on the ring
-  pub ear_below : (k : ℕ) → find_ear ps dir ≡ At k → k < length ps
+  ear_below : (k : ℕ) → find_ear ps dir ≡ At k → k < length ps
   unfolding find_ear
   ear_below k e = omega (arith, first_below (ear_at ps dir) (length ps) 0 k e)
 
-  pub turn_below : (k : ℕ) → find_turn ps dir ≡ At k → k < length ps
+  turn_below : (k : ℕ) → find_turn ps dir ≡ At k → k < length ps
   unfolding find_turn
   turn_below k e = omega (arith, first_below (turns_at ps dir) (length ps) 0 k e)
 

@@ -1,0 +1,16 @@
+-- `refusals::strays_in` meets its contract: each pass joins the test of one entry to `any` by an or, and such an or over the whole list is
+-- `any_of` (`any_taken`).
+use Rattle.places.proofs.Loops.{take_start, take_next, take_end, any_taken}
+use Rattle.refusals.specs.Refusals.{strays}
+use borrow.Author.Rules.{rules}
+use Rattle.refusals.proofs.strays_in.Goals as goal
+
+pub loop-i-init : goal.loop-i-init
+loop-i-init c = take_start (any_taken (strays _) _)
+
+pub loop-i-preserved : goal.loop-i-preserved
+loop-i-preserved c =
+    take_next 0 c.loop-i.invariant (search rules) (cc)
+
+pub returns : goal.returns
+returns c = take_end c.loop-i.invariant (search rules)

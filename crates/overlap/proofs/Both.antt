@@ -42,7 +42,8 @@ farther_root c (p ∷ ps) m f u =
 module _ (vs ws : List Point) where
   -- the centroid: the second list's sum goes on from the first's
   centroid_both : centroid_of 3 (vs ++ ws)
-      ≡ over_of 3 (fold_list (plus_of 3) ws (fold_list (plus_of 3) vs (point_by 3 (λ k. zero64)))) (of_int binary64 (pos (length vs + length ws)))
+      ≡ over_of 3 (fold_list (plus_of 3) ws (fold_list (plus_of 3) vs (point_by 3 (λ k. zero64))))
+      (of_int binary64 (pos (length vs + length ws)))
   unfolding centroid_of
   centroid_both = rw (fold_append (plus_of 3) vs ws, length-append vs ws)
 

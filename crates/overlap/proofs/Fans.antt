@@ -38,7 +38,8 @@ abbrev pub fan_of : Point → List Point → Float
 fan_of ref ps = fold_pairs (add_fan ref (get_or ps 0 [])) (steps (drop 1 ps)) zero64
 
 module _ {ref : Point} {ps : List Point} where
-  pub fan_start : {a : Point} → 2 ≤ length ps → a ≡ minus_of 3 (get_or ps 1 []) ref → Fanning ref (get_or ps 0 []) ps (fan_of ref ps) 2 a zero64
+  pub fan_start : {a : Point} → 2 ≤ length ps → a ≡ minus_of 3 (get_or ps 1 []) ref
+      → Fanning ref (get_or ps 0 []) ps (fan_of ref ps) 2 a zero64
   fan_start h q = record { some = omega arith; within = h; last = q; so = refl }
 
   pub fan_next : {p : Point} {whole : Float} {i : ℕ} {a b : Point} {v w : Float} → Fanning ref p ps whole i a v → i < length ps

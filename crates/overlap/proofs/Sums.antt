@@ -3,7 +3,7 @@
 use mathlib.Core.Path.{◌≡◌, refl, sym, ◌∙◌}
 use mathlib.Core.Bool.{Bool, true, false, cond}
 use mathlib.Core.List.{List, [], ◌∷◌, ◌++◌, map}
-use Prim.Native.Nat.{ℕ, ◌+◌, ◌*◌, ◌-◌, ◌<◌, ◌≤◌, zero-le}
+use Prim.Native.Nat.{ℕ, ◌+◌, ◌*◌, ◌<◌, ◌≤◌, zero-le}
 use native.Mathlib.Omega.{arith}
 use lib.Dec.{T}
 use lib.ListN.{length, get_or, take, drop, length-take, length-drop}
@@ -97,7 +97,8 @@ shown_points n true a b = threes_take n b
 shown_points n false a b = threes_take n a
 
 pub took_shown : {o : Outcome} {n : ℕ} {s : Bool} {shown : List Float} {w : Float} (ref : Point) (v : Float) (a b : List Float)
-    → Ended o (Outline n s) (vertices_of a) (vertices_of b) → shown ≡ take (n * 3) (cond s b a) → w ≡ contribution_of ref (vertices_of shown)
+    → Ended o (Outline n s) (vertices_of a) (vertices_of b) → shown ≡ take (n * 3) (cond s b a)
+    → w ≡ contribution_of ref (vertices_of shown)
     → Sum.Is (v +f w) ≡ added_to ref v (o ∷ [])
 took_shown {n = n} {s = s} ref v a b q f g = rw (g, f, shown_points n s a b) (took_outline ref v q)
 

@@ -60,7 +60,8 @@ room_of first second = shorter_of (length (vertices_of first)) (length (vertices
 -- ---- a volume by two cells' points and faces, with how many faces of each have no area
 abbrev pub both_counted : (List Point → List (List ℕ) → List Point → List (List ℕ) → Sum)
     → List Point → List (List ℕ) → List Point → List (List ℕ) → SharedSum
-both_counted volume vs faces ws other_faces = counted (volume vs faces ws other_faces) (no_area_count vs faces) (no_area_count ws other_faces)
+both_counted volume vs faces ws other_faces =
+    counted (volume vs faces ws other_faces) (no_area_count vs faces) (no_area_count ws other_faces)
 
 -- ---- the planes of both cells in one list, those of the first before those of the second
 -- the n numbers of the first cell's planes (false), or of the second's (true)

@@ -1,0 +1,49 @@
+-- `overlap::overlap_16` meets its contract: one list has the planes of both cells, the sum over the second cell's faces goes on from
+-- that over the first's, so that it is the sum over what is left of all faces, and the faces without a plane are those of no area.
+use mathlib.Core.List.{List}
+use Prim.Native.Nat.{ℕ, ◌+◌, ◌*◌, ◌-◌}
+use lib.ListN.{take}
+use lib.Ieee.{Float}
+use Rattle.flat.specs.Points.{vertices_of}
+use Rattle.cell.specs.Faces.{faces_of}
+use Rattle.planes.specs.Planes.{planes_of}
+use Rattle.overlap.specs.Steps.{Joint}
+use Rattle.overlap.proofs.Overlaps.{overlap_refused, overlap_is, joint_cut, left_over}
+use Rattle.overlap.proofs.Overlaps.{few_coordinates}
+use borrow.Author.Rules.{rules}
+use Rattle.overlap.proofs.overlap_16.Goals as goal
+use Rattle.overlap.proofs.overlap_16.Goals.{After-both_planes-c}
+
+-- the list after the planes are laid down, and how many numbers these have
+abbrev planes : After-both_planes-c → List Float
+planes c = c.both_planes-c.new.list
+
+abbrev all : After-both_planes-c → ℕ
+all c = (c.both_planes-c.result.planes + c.both_planes-c.result.planes2) * 4
+
+-- they are those of both cells
+joint : (c : After-both_planes-c) → Joint (c.both_planes-c.result.planes * 4) (c.both_planes-c.result.planes2 * 4)
+    (planes_of (vertices_of c.args.coords.now) (faces_of c.args.corners.now c.args.ends.now))
+    (planes_of (vertices_of c.args.coords2.now) (faces_of c.args.corners2.now c.args.ends2.now)) (take (all c - 0) (planes c))
+joint c = joint_cut (all c) (planes c) c.both_planes-c.ensures.joint
+
+pub measures-m-requires : goal.measures-m-requires
+measures-m-requires c = search (rules, few_coordinates)
+
+pub returns-in-NoRoom : goal.returns-in-NoRoom
+returns-in-NoRoom c =
+    let so_far = c.so_far-t.ensures in
+    let none = overlap_refused _ _ _ _ _ _ c.measures-m.ensures (joint (goal.at.returns-in-NoRoom c).After-both_planes-c)
+    (rw (so_far.0, so_far.1, so_far.2, so_far.3) at c.add_faces.ensures) c.in-NoRoom.is in
+    rw (← none)
+
+pub returns-in-Is : goal.returns-in-Is
+returns-in-Is c =
+    let found = c.both_planes-c.result in
+    let counts = c.both_planes-c.ensures in
+    let so_far = c.so_far-t.ensures in
+    let so_far2 = c.so_far-u.ensures in
+    let is = overlap_is _ _ _ _ _ _ c.measures-m.ensures (joint (goal.at.returns-in-Is c).After-both_planes-c)
+    (rw (so_far.0, so_far.1, so_far.2, so_far.3) at c.add_faces.ensures) _ _ c.in-Is.is c.add_faces.auto.first c.add_faces.auto.second
+    (rw (so_far2.0, so_far2.1, so_far2.2, so_far2.3) at c.add_faces-whole.ensures) c.magnitude_of.ensures in
+    rw (← is, ← left_over found.planes counts.ends_value, ← left_over found.planes2 counts.ends2_value) c.counted.ensures

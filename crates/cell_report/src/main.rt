@@ -3,78 +3,136 @@
 #![tactic(auto)]
 
 ghost use Rattle.std.specs.Prelude.{◌+◌, ◌^◌, ◌≤◌, ◌<◌, ◌≡◌, true, false, length, take};
+ghost use Rattle.std.specs.Io.{WritesAtMost};
 ghost use Rattle.records.specs.Tally.{Sized, Fits};
 ghost use Rattle.report.specs.Report.{held_of};
 ghost use Rattle.report.specs.Split.{Takes, came_of, TookRead};
 
 use records::tally::Tally;
 use report::stream::{Fed, feed, finish};
+use std::io::{Error, ErrorKind, Read, Result, Write};
+use std::thread::yield_now;
 
 // What a read gave behind the bytes that waited: so many bytes, 0 at the end of the input, or it
-// failed.
-#[derive(Drop)]
+// failed, and then whether it can be tried again.
+#[derive(Clone, Copy)]
 struct Came {
     waited: usize,
     bytes: usize,
     failed: bool,
+    again: bool,
 }
 
 // Whether a call that has just failed can be tried again: a signal interrupted it, or the other end was
 // not ready. There is no call that waits until it is, so another process is let run first.
-fn can_try_again() -> bool {
-    let error = os::errno();
-    if error == libc::EAGAIN {
-        libc::sched_yield();
+fn can_try_again(error: &Error) -> bool {
+    let kind = error.kind();
+    if kind == ErrorKind::WouldBlock {
+        yield_now();
         return true;
     }
-    error == libc::EINTR
+    kind == ErrorKind::Interrupted
+}
+
+// What stands in an error's text before the number that ends it: the system's words.
+fn words_of(text: &str) -> &str {
+    match text.split_once(" (os error ") {
+        Some((words, _)) => words,
+        None => text,
+    }
+}
+
+// Says on standard error what failed and why. Where there is no memory for the words alone, the error's number stands behind them.
+fn say_failure(rt: &(impl Eprint + AllocGlobal), what: &str, error: &Error) {
+    match format!(in rt.alloc(); "{error}") {
+        Ok(text) => {
+            let _ = eprintln!(rt; "cell_report: {what}: {}", words_of(text.as_str()));
+        }
+        Err(_) => {
+            let _ = eprintln!(rt; "cell_report: {what}: {error}");
+        }
+    }
 }
 
 // Whether a write that took no byte can be tried again; if not, it is said why.
-fn can_write_again(put: isize) -> bool {
-    if put == 0 {
-        io::write_all(
-            2,
-            b"cell_report: writing standard output: no byte was taken\n",
-        );
-        return false;
+fn can_write_again(rt: &(impl Eprint + AllocGlobal), put: Result<usize>) -> bool {
+    match put {
+        Ok(_) => {
+            let _ = eprintln!(rt; "cell_report: writing standard output: no byte was taken");
+            false
+        }
+        Err(error) => {
+            if can_try_again(&error) {
+                return true;
+            }
+            say_failure(rt, "writing standard output", &error);
+            false
+        }
     }
-    if can_try_again() {
-        return true;
-    }
-    os::fail(b"cell_report: writing standard output");
-    false
 }
 
-// Writes the bytes to standard output, and answers whether all were taken. Nothing says that the output
+// How many of the bytes a write took; none where it failed.
+fn taken(put: Result<usize>, bytes: &[u8]) -> usize
+    requires { WritesAtMost put bytes.now }
+    ensures { result ≤ length bytes.now }
+{
+    match put {
+        Ok(n) => n,
+        Err(_) => 0,
+    }
+}
+
+// Writes the bytes to the output, and answers whether all were taken. Nothing says that the output
 // takes them some day, so the loop counts its writes down, from a number that no run uses up.
-fn write_out(bytes: &[u8]) -> bool {
+fn write_out<W: Write>(rt: &(impl Eprint + AllocGlobal), to: &mut W, bytes: &[u8]) -> bool {
     let n = bytes.len();
     let mut done = 0;
     let mut writes = 1125899906842624u64;
     while done < n && writes > 0 {
-        let put = libc::write(1, &bytes[done..]);
-        if put <= 0 && !can_write_again(put) {
+        let put = to.write(&bytes[done..]);
+        let count = taken(put, &bytes[done..]);
+        if count == 0 && !can_write_again(rt, put) {
             return false;
         }
-        done += io::count(put, &bytes[done..]);
+        done += count;
         writes -= 1;
     }
     done == n
 }
 
+// A read that failed: whether it is tried again, and if not, it is said why.
+fn can_read_again(rt: &(impl Eprint + AllocGlobal), error: &Error) -> bool {
+    if can_try_again(error) {
+        return true;
+    }
+    say_failure(rt, "reading standard input", error);
+    false
+}
+
 // Reads once, behind the bytes that the block has already: these stay.
-fn read_more(block: &mut [u8], have: usize) -> Came
+fn read_more<R: Read>(
+    rt: &(impl Eprint + AllocGlobal),
+    from: &mut R,
+    block: &mut [u8],
+    have: usize,
+) -> Came
     requires { have ≤ length block.old }
     ensures waited_value { (result.waited ≡ have) × (have + result.bytes ≤ length block.old) × (result.failed ≡ true → result.bytes ≡ 0) }
     ensures block_value { take have block.new ≡ take have block.old }
 {
-    let got = libc::read(0, &mut block[have..]);
-    let bytes = io::count(got, &block[have..]);
-    Came {
-        waited: have,
-        bytes,
-        failed: got < 0,
+    match from.read(&mut block[have..]) {
+        Ok(bytes) => Came {
+            waited: have,
+            bytes,
+            failed: false,
+            again: false,
+        },
+        Err(error) => Came {
+            waited: have,
+            bytes: 0,
+            failed: true,
+            again: can_read_again(rt, &error),
+        },
     }
 }
 
@@ -106,7 +164,7 @@ fn take_in(
 
 // After a read: the tally, how many bytes wait, how many bytes of `out` were to be written, whether
 // to go on, and whether the input has ended.
-#[derive(Drop)]
+#[derive(Clone, Copy)]
 struct Went {
     tally: Tally,
     have: usize,
@@ -128,14 +186,10 @@ fn stayed(tally: Tally, have: usize, more: bool, ended: bool) -> Went
     }
 }
 
-// A read failed: it is tried again where that can help, and else it is said why it failed.
-fn after_failure(tally: Tally, have: usize) -> Went
+// A read failed: it is tried again where that can help, and where not, it has been said why it failed.
+fn after_failure(tally: Tally, have: usize, again: bool) -> Went
     ensures { (result.tally ≡ tally) × (result.have ≡ have) × (result.made ≡ 0) × (result.ended ≡ false) }
 {
-    let again = can_try_again();
-    if !again {
-        os::fail(b"cell_report: reading standard input");
-    }
     stayed(tally, have, again, false)
 }
 
@@ -155,7 +209,9 @@ fn went_on(d: Fed, more: bool) -> Went
 
 // After a read: the bytes that it left in the block are taken, and the lines of the records that are whole are written. A failed read
 // is not the end of the input, and an output that takes no more ends the program.
-fn after_read(
+fn after_read<W: Write>(
+    rt: &(impl Eprint + AllocGlobal),
+    to: &mut W,
     t: Tally,
     came: Came,
     block: &mut [u8],
@@ -177,20 +233,23 @@ fn after_read(
 {
     let waited = came.waited;
     if came.failed {
-        return after_failure(t, waited);
+        return after_failure(t, waited, came.again);
     }
     if came.bytes == 0 {
         return stayed(t, waited, false, true);
     }
     let d = take_in(t, came, block, coords, corners, ends, queries, out);
     let made = d.made;
-    let more = write_out(&out[..made]);
+    let more = write_out(rt, to, &out[..made]);
     went_on(d, more)
 }
 
 // Nothing says that the input ends, so the loop counts its reads down, from a number that no run
 // uses up.
-fn run(
+fn run<R: Read, W: Write>(
+    rt: &(impl Eprint + AllocGlobal),
+    from: &mut R,
+    to: &mut W,
     block: &mut [u8],
     coords: &mut [f64],
     corners: &mut [u32],
@@ -207,8 +266,8 @@ fn run(
     let mut ended = false;
     let mut reads = 1125899906842624u64;
     while more && reads > 0 {
-        let came = read_more(block, have);
-        let w = after_read(t, came, block, coords, corners, ends, queries, out);
+        let came = read_more(rt, from, block, have);
+        let w = after_read(rt, to, t, came, block, coords, corners, ends, queries, out);
         t = w.tally;
         have = w.have;
         more = w.more;
@@ -217,12 +276,18 @@ fn run(
     }
     if ended {
         let k = finish(t, have, out);
-        write_out(&out[..k]);
+        write_out(rt, to, &out[..k]);
     }
 }
 
 // The arrays, each from a function whose contract has its length: the list itself is never
 // computed with.
+fn block_room() -> [u8; 65536]
+    ensures { 65536 ≡ length result }
+{
+    [0; 65536]
+}
+
 fn lines_room() -> [u8; 524288]
     ensures { 524288 ≡ length result }
 {
@@ -247,14 +312,19 @@ fn ends_room() -> [u32; 256]
     [0; 256]
 }
 
-fn main() {
-    let mut block = io::large_buffer();
+fn main(rt: HostRuntime) {
+    let mut from = rt.stdin();
+    let mut to = rt.stdout();
+    let mut block = block_room();
     let mut coords = points_room();
     let mut corners = corners_room();
     let mut ends = ends_room();
     let mut queries = points_room();
     let mut out = lines_room();
     run(
+        &rt,
+        &mut from,
+        &mut to,
         &mut block,
         &mut coords,
         &mut corners,

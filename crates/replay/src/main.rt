@@ -3,13 +3,14 @@
 // each of whole lines: empty lines fill a part up.
 #![tactic(auto)]
 
-ghost use Rattle.std.specs.Prelude.{◌≡◌, ◌≤◌, length};
+ghost use Rattle.std.specs.Prelude.{◌≡◌, ◌≤◌, length, IfOk, IfSome};
 
-use std::num::wrapping_add_u64;
+use std::io;
+use std::io::{ErrorKind, Read};
 use stored_answers::Verdict;
 
 // What has been replayed so far.
-#[derive(Drop)]
+#[derive(Clone, Copy)]
 struct Totals {
     cases: u64,
     asked: u64,
@@ -17,26 +18,19 @@ struct Totals {
 }
 
 // Writes ` same`, or ` different`, how many questions and of how many.
-fn print_verdict(v: Verdict) {
+fn print_verdict(rt: &impl Print, v: Verdict) -> io::Result<()> {
     if v.different == 0 {
-        io::write_all(1, b" same\n");
-        return;
+        return println!(rt; " same");
     }
-    io::write_all(1, b" different ");
-    io::print_decimal(1, v.different);
-    io::write_all(1, b" of ");
-    io::print_decimal(1, v.asked);
-    io::write_all(1, b"\n");
+    println!(rt; " different {} of {}", v.different, v.asked)
 }
 
 // Writes the counts.
-fn print_totals(t: Totals) {
-    io::print_decimal(1, t.cases);
-    io::write_all(1, b" cases, ");
-    io::print_decimal(1, t.asked);
-    io::write_all(1, b" questions, ");
-    io::print_decimal(1, t.different);
-    io::write_all(1, b" different\n");
+fn print_totals(rt: &impl Print, t: Totals) -> io::Result<()> {
+    println!(rt;
+        "{} cases, {} questions, {} different",
+        t.cases, t.asked, t.different
+    )
 }
 
 // Whether a line is a case: not empty, and no remark.
@@ -48,23 +42,23 @@ fn is_case(line: &[u8]) -> bool {
 }
 
 // Replays a line, and returns the totals with it.
-fn replay(t: Totals, line: &[u8]) -> Totals {
+fn replay(rt: &impl Print, t: Totals, line: &[u8]) -> io::Result<Totals> {
     if !is_case(line) {
-        return t;
+        return Ok(t);
     }
     let end = stored_answers::name_end(line);
     let v = stored_answers::judge(&line[end..]);
-    io::write_all(1, &line[0..end]);
-    print_verdict(v);
-    Totals {
-        cases: wrapping_add_u64(t.cases, 1),
-        asked: wrapping_add_u64(t.asked, v.asked),
-        different: wrapping_add_u64(t.different, v.different),
-    }
+    rt.write_all(&line[0..end])?;
+    print_verdict(rt, v)?;
+    Ok(Totals {
+        cases: t.cases.wrapping_add(1),
+        asked: t.asked.wrapping_add(v.asked),
+        different: t.different.wrapping_add(v.different),
+    })
 }
 
 // Replays one line after the other, and returns the totals with them.
-fn replay_all(start: Totals, text: &[u8]) -> Totals
+fn replay_all(rt: &impl Print, start: Totals, text: &[u8]) -> io::Result<Totals>
     requires { length text.now ≤ 65536 }
 {
     let n = text.len();
@@ -72,10 +66,10 @@ fn replay_all(start: Totals, text: &[u8]) -> Totals
     let mut at = 0;
     while at < n {
         let end = stored_answers::line_end(text, at);
-        t = replay(t, &text[at..end]);
+        t = replay(rt, t, &text[at..end])?;
         at = end + 1;
     }
-    t
+    Ok(t)
 }
 
 // A part's room, from a function whose contract has its length: the list itself is then never computed with.
@@ -85,15 +79,49 @@ fn text_room() -> [u8; 65536]
     [0; 65536]
 }
 
+// Reads once; a read that a signal interrupts gives no byte, and is to be tried again.
+fn read_some(from: &mut impl Read, text: &mut [u8]) -> io::Result<Option<usize>>
+    ensures { IfOk result (λ got. IfSome got (λ n. n ≤ length text.old)) }
+{
+    match from.read(text) {
+        Ok(n) => Ok(Some(n)),
+        Err(error) => {
+            if error.kind() == ErrorKind::Interrupted {
+                return Ok(None);
+            }
+            Err(error)
+        }
+    }
+}
+
+// Reads until the list is full or the input ends, and returns how many bytes stand at its front.
+fn read_full(from: &mut impl Read, text: &mut [u8]) -> io::Result<usize>
+    ensures { IfOk result (λ n. n ≤ length text.old) }
+{
+    let mut done = 0;
+    for _ in 0..u64::MAX {
+        if done >= text.len() {
+            break;
+        }
+        match read_some(from, &mut text[done..])? {
+            Some(0) => break,
+            Some(n) => done += n,
+            None => {}
+        }
+    }
+    Ok(done)
+}
+
 // Reads the next part of the input, which ends with a whole line, and replays it.
-fn replay_part(t: Totals) -> Totals {
+fn replay_part(rt: &impl Print, from: &mut impl Read, t: Totals) -> io::Result<Totals> {
     let mut text = text_room();
-    let n = io::read_full(0, &mut text);
-    replay_all(t, &text[0..n])
+    let n = read_full(from, &mut text)?;
+    replay_all(rt, t, &text[0..n])
 }
 
 // The list has at most 64 parts; past its end a part is empty.
-fn main() {
+fn main(rt: HostRuntime) -> io::Result<()> {
+    let mut from = rt.stdin();
     let mut t = Totals {
         cases: 0,
         asked: 0,
@@ -101,8 +129,8 @@ fn main() {
     };
     let mut k: usize = 0;
     while k < 64 {
-        t = replay_part(t);
+        t = replay_part(&rt, &mut from, t)?;
         k += 1;
     }
-    print_totals(t);
+    print_totals(&rt, t)
 }

@@ -138,6 +138,7 @@ all_wait w (b ∷ s) l =
 -- 32 bytes are one record, and none waits
 one_record : (w s : List ℕ) → length w + length s ≡ 32 → 0 < length s → records_from w s ≡ record_of (w ++ s) 0 ∷ []
 unfolding records_from
+one_record w [] l p = elim p [ ]
 one_record w (b ∷ []) l p = rw (eq-eqb (length (w ++ (b ∷ []))) 32 (omega (arith, longer w b)))
 one_record w (b ∷ (d ∷ s)) l p =
     rw (ne_eqb (length (w ++ (b ∷ []))) 32 (λ e. omega (arith, longer w b)))
@@ -146,6 +147,7 @@ one_record w (b ∷ (d ∷ s)) l p =
 
 none_waits : (w s : List ℕ) → length w + length s ≡ 32 → 0 < length s → rest_from w s ≡ []
 unfolding rest_from
+none_waits w [] l p = elim p [ ]
 none_waits w (b ∷ []) l p = rw (eq-eqb (length (w ++ (b ∷ []))) 32 (omega (arith, longer w b)))
 none_waits w (b ∷ (d ∷ s)) l p =
     rw (ne_eqb (length (w ++ (b ∷ []))) 32 (λ e. omega (arith, longer w b)))
@@ -245,7 +247,8 @@ module _ (s : List ℕ) (k : ℕ) (l : (k + 1) * 32 ≤ length s) where
   after_more h = ap (after h) (records_more s k l) ∙ after_append h (first_records k s) (record_of s (k * 32) ∷ [])
 
   pub lines_more : (h : Held)
-      → lines_of h (first_records (k + 1) s) ≡ lines_of h (first_records k s) ++ says_of (after h (first_records k s)) (record_of s (k * 32))
+      → lines_of h (first_records (k + 1) s)
+      ≡ lines_of h (first_records k s) ++ says_of (after h (first_records k s)) (record_of s (k * 32))
   unfolding lines_of
   lines_more h =
       ap (lines_of h) (records_more s k l)

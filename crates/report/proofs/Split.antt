@@ -66,7 +66,7 @@ unfolding printed_from joined
 from_there {given} {h} {w} {printed} [] r = at_the_end given h w printed r ∙ ap report_of (sym (append-nil given))
 from_there {given} {h} {w} {printed} (s ∷ ss) r =
     sym (append_assoc printed _ _)
-    ∙ from_there ss ((one_more h w s).on given printed r)
+    ∙ from_there {given = given ++ s} ss ((one_more h w s).on given printed r)
     ∙ ap report_of (append_assoc given s (joined ss))
 
 pub any_split : AnySplit
@@ -76,7 +76,8 @@ pub one_report : OneReport
 one_report ss ts e = any_split ss ∙ ap report_of e ∙ sym (any_split ts)
 
 -- ---- the contracts
-pub feeds : {h h' : Held} {b w' p : List ℕ} → h' ≡ after h (records_of b) → w' ≡ rest_of b → p ≡ lines_of h (records_of b) → Feeds h b h' w' p
+pub feeds : {h h' : Held} {b w' p : List ℕ} → h' ≡ after h (records_of b) → w' ≡ rest_of b → p ≡ lines_of h (records_of b)
+    → Feeds h b h' w' p
 feeds e f g = record { takes = λ w s c. rw (e, f, g, c) (one_more _ w s) }
 
 pub finishes : (t : Tally) (left : ℕ) {p : List ℕ} → p ≡ tail_of t.begun left → Finishes t left p

@@ -9,7 +9,7 @@ use records::bytes::{Rec, read_record};
 use records::tally::Tally;
 
 // After a record: the tally, and how much is written.
-#[derive(Drop)]
+#[derive(Clone, Copy)]
 pub struct Taken {
     pub tally: Tally,
     pub made: usize,

@@ -22,7 +22,7 @@ fn to_front(b: &mut [u8], from: usize, to: usize)
 }
 
 // After a block: the tally, how many bytes wait at its front, and how much is written.
-#[derive(Drop)]
+#[derive(Clone, Copy)]
 pub struct Fed {
     pub tally: Tally,
     pub have: usize,

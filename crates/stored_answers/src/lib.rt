@@ -11,7 +11,7 @@ ghost use Rattle.std.specs.Prelude.{◌≤◌, ◌<◌, ◌≡◌, length};
 use question_lists::words;
 
 // How many questions a line asks, and how many of them are answered otherwise than stored.
-#[derive(Drop)]
+#[derive(Clone, Copy)]
 pub struct Verdict {
     pub asked: u64,
     pub different: u64,

@@ -41,7 +41,7 @@ fn longer(w: u64, d: u64) -> u64
 }
 
 // The words that have been read: how many are finished, and whether one is open.
-#[derive(Drop)]
+#[derive(Clone, Copy)]
 struct Reading {
     count: usize,
     open: bool,

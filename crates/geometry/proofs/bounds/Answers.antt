@@ -1,0 +1,14 @@
+-- `geometry::bounds` meets its contract: the room takes the box of the vertices, and its corners get names.
+use Rattle.geometry.specs.declared.Extent.{Extent}
+use Rattle.geometry.specs.Cells.{bounds_answer}
+use Rattle.geometry.proofs.Answers.{refused, passed}
+use Rattle.geometry.proofs.bounds.Goals as goal
+
+pub returns-then-why-ne0 : goal.returns-then-why-ne0
+unfolding bounds_answer
+returns-then-why-ne0 c = refused c.cell_refusal-why.ensures Extent.Refused _ c.if-why-ne0.true
+
+pub returns : goal.returns
+unfolding bounds_answer
+returns c =
+    passed c.cell_refusal-why.ensures _ c.if-why-ne0.false (cc)

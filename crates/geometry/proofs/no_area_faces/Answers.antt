@@ -1,0 +1,47 @@
+-- `geometry::no_area_faces` meets its contract: a cell that passes the checks is sound and has at most as many faces as the list has
+-- places, so the room may write at the front, and what stands behind is not touched.
+use mathlib.Core.Path.{◌≡◌, sym, ◌∙◌}
+use native.Mathlib.Omega.{arith}
+use mathlib.Core.List.{List}
+use Prim.Native.Nat.{ℕ}
+use native.Mathlib.Nat.{sub-zero}
+use lib.ListN.{length, length-take, length-map}
+use Rattle.flat.specs.Points.{Point, vertices_of}
+use Rattle.cell.specs.Faces.{faces_of}
+use Rattle.cell.proofs.Faces.{length_faces}
+use Rattle.planes.specs.Planes.{no_area_faces}
+use Rattle.refusals.proofs.Refusals.{no_area_known}
+use Rattle.geometry.specs.declared.Done.{Done}
+use Rattle.geometry.specs.Cells.{no_area_faces_answer}
+use Rattle.geometry.proofs.Answers.{refused, passed}
+use Rattle.geometry.proofs.no_area_faces.Goals as goal
+
+-- there is a number for each face
+flags_many : (vs : List Point) (corners ends : List ℕ) → length (no_area_faces vs (faces_of corners ends)) ≡ length ends
+unfolding no_area_faces
+flags_many vs corners ends = length-map (faces_of corners ends) _ ∙ length_faces corners ends
+
+pub returns-then-why-ne0 : goal.returns-then-why-ne0
+unfolding no_area_faces_answer
+returns-then-why-ne0 c =
+    refused c.no_area_refusal-why.ensures (λ why. (Done.Refused why, c.args.out.now)) _ c.if-why-ne0.true
+
+pub slice_bounds-no_area_faces-end : goal.slice_bounds-no_area_faces-end
+slice_bounds-no_area_faces-end c =
+    let args = c.args in
+    (no_area_known args.coords.now args.corners.now args.ends.now (length args.out.now)
+    (sym c.no_area_refusal-why.ensures ∙ c.if-why-ne0.false)).1
+
+pub no_area_faces-requires : goal.no_area_faces-requires
+no_area_faces-requires c =
+    let args = c.args in
+    let known = no_area_known args.coords.now args.corners.now args.ends.now (length args.out.now)
+    (sym c.no_area_refusal-why.ensures ∙ c.if-why-ne0.false) in
+    record { sound = known.0; out_len = simp length-take (omega (arith, known.1)) }
+
+pub returns : goal.returns
+unfolding no_area_faces_answer
+returns c =
+    let args = c.args in
+    let size = flags_many (vertices_of args.coords.now) args.corners.now args.ends.now in
+    passed c.no_area_refusal-why.ensures _ c.if-why-ne0.false (rw (c.no_area_faces.ensures, size, sub-zero))

@@ -1,0 +1,36 @@
+-- `answer_lists::given::eight` meets its contract: the corners, read one by one, are all the vertices of a list of that length.
+use native.Mathlib.Omega.{arith}
+use mathlib.Core.List.{[]}
+use Rattle.flat.specs.Points.{vertices_of}
+use Rattle.places.proofs.Stored.{length_threes}
+use Rattle.answer_lists.proofs.Corners.{taken_all}
+use Rattle.answer_lists.proofs.given.eight.Goals as goal
+
+pub returns : goal.returns
+returns c =
+    let whole = taken_all [] 8 (vertices_of c.args.p.now) (omega (arith, length_threes c.args.p.now)) in
+    cc
+
+pub vertex-requires : goal.vertex-requires
+vertex-requires c = omega (arith, length_threes c.args.p.now)
+
+pub vertex-requires-2 : goal.vertex-requires-2
+vertex-requires-2 c = omega (arith, length_threes c.args.p.now)
+
+pub vertex-requires-3 : goal.vertex-requires-3
+vertex-requires-3 c = omega (arith, length_threes c.args.p.now)
+
+pub vertex-requires-4 : goal.vertex-requires-4
+vertex-requires-4 c = omega (arith, length_threes c.args.p.now)
+
+pub vertex-requires-5 : goal.vertex-requires-5
+vertex-requires-5 c = omega (arith, length_threes c.args.p.now)
+
+pub vertex-requires-6 : goal.vertex-requires-6
+vertex-requires-6 c = omega (arith, length_threes c.args.p.now)
+
+pub vertex-requires-7 : goal.vertex-requires-7
+vertex-requires-7 c = omega (arith, length_threes c.args.p.now)
+
+pub vertex-requires-8 : goal.vertex-requires-8
+vertex-requires-8 c = omega (arith, length_threes c.args.p.now)

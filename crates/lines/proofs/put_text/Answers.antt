@@ -1,5 +1,4 @@
 -- `lines::put_text` meets its contract: after i turns the first i bytes of the text are stored, and after the last all of them.
-use Prim.Native.Nat.{◌-◌}
 use native.Mathlib.Omega.{arith}
 use lib.ListN.{length-set}
 use Rattle.lines.proofs.Writing.{sets_more}

@@ -1,11 +1,8 @@
 -- `report::block::take_record` meets its contract: the lists hold the cell with what the record adds, a record of kind 4 prints that cell's
 -- line and starts a new tally, and any other record prints nothing.
-use mathlib.Core.Bool.{false}
-use mathlib.Core.Path.{◌≡◌}
 use native.Mathlib.Omega.{arith}
-use lib.Dec.{eqb}
 use borrow.Author.Tests.{ne_eqb}
-use Rattle.report.proofs.Taken.{follows, stored, new_fits, taken_end, taken_on, says_end, says_on}
+use Rattle.report.proofs.Taken.{follows, stored, taken_end, taken_on, says_end, says_on}
 use Rattle.report.proofs.block.take_record.Goals as goal
 
 pub put_line-made-requires-clause-fits : goal.put_line-made-requires-clause-fits

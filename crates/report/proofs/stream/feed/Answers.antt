@@ -1,8 +1,5 @@
 -- `report::stream::feed` meets its contract: the block's first bytes are taken whole, those behind the records are moved to the front, and
 -- with both a run goes on.
-use mathlib.Core.Path.{◌≡◌, refl}
-use lib.ListN.{length, take}
-use lib.Seq.{length-take-le}
 use Rattle.report.proofs.Split.{feeds, put_front, moved_rest}
 use Rattle.report.proofs.stream.feed.Goals as goal
 

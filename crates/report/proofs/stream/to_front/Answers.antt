@@ -1,5 +1,4 @@
 -- `report::stream::to_front` meets its contract: after i turns the first i bytes are moved, and a byte is read before it is written over.
-use Prim.Native.Nat.{◌-◌}
 use native.Mathlib.Omega.{arith}
 use lib.ListN.{length-set}
 use Rattle.report.proofs.Moving.{moved_more}

@@ -21,8 +21,8 @@ use Rattle.demand3.proofs.Reported.{reported}
 
 -- every definition on the way to an exact sum or a volume: 'unfolding computed' opens them all
 unfoldable pub computed : Unit {0}
-unfolding Cut.computed div fold_list count_of closed_of det less exact_of plus_of minus_of over_of centroid_of faces_of triangles_of is_short short_of
-    triple_of triple_about sum_about v6_of volume_of exact_point place_of
+unfolding Cut.computed div fold_list count_of closed_of det less exact_of plus_of minus_of over_of centroid_of faces_of triangles_of
+    is_short short_of triple_of triple_about sum_about v6_of volume_of exact_point place_of
 computed = tt
 
 abbrev vertices : List Point

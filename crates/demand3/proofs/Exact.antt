@@ -1,5 +1,5 @@
 -- The whole number of an f64 is its value times 2 ^ 1074, sign and all, with nothing cut off.
-use mathlib.Core.Path.{◌≡◌, refl, sym, ◌∙◌, ap}
+use mathlib.Core.Path.{◌≡◌, sym, ◌∙◌, ap}
 use mathlib.Core.Bool.{Bool, true, false}
 use Prim.Native.Nat.{ℕ, zero, suc, ◌*◌, ◌^◌}
 use native.Mathlib.Nat.{zero-mul}

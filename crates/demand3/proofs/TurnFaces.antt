@@ -32,7 +32,7 @@ use Rattle.refusals.specs.Refusals.{cell_refusal, turn_faces_refusal}
 use Rattle.geometry.specs.declared.Count.{Count}
 use Rattle.geometry.specs.Answers.{answered}
 use Rattle.geometry.specs.TurnFaces.{TurnFacesGives}
-use Rattle.geometry.specs.Listed.{Reply, told, written, of_count, TurnFacesTold}
+use Rattle.geometry.specs.Listed.{Reply, told, written, of_count}
 use Rattle.demand3.specs.Demand3.{Premises, place_of}
 use Rattle.demand3.specs.TurnFaces.{OneOutcome, OneOutcomeTold, RefusedLeaves, Success, Succeeds, ClosedAlready, TwiceIsOnce}
 use Rattle.demand3.specs.TurnFaces.{OnlyFullCuts, WholeGroups, SignAlone, TurnFacesFacts}

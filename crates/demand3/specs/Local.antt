@@ -1,6 +1,6 @@
 -- `to_local` moves a list of vertices, and nothing exact about a cell changes but where it is: SCOPE 19, sentence by sentence, in whole
 -- numbers scaled by 2 ^ 1074. It holds of every list that `to_local` does not refuse.
-use Rattle.std.specs.Prelude.{◌≡◌, ◌↔◌, true, false, List, [], ℕ, ◌*◌, ◌^◌, ◌<◌, T, length, ℤ, pos, nat_abs, ◌-ℤ◌, ◌*ℤ◌, Float}
+use Rattle.std.specs.Prelude.{◌≡◌, ◌↔◌, true, false, List, [], ℕ, ◌^◌, ◌<◌, T, length, ℤ, pos, nat_abs, ◌-ℤ◌, ◌*ℤ◌, Float}
 use Rattle.std.specs.Float.{nan, binary64}
 use Rattle.std.specs.Float.Ieee.{fits}
 use Rattle.places.specs.Lists.{Each}
@@ -74,7 +74,8 @@ ToLocalMoves = (coords : List Float) → F64s coords → local_refusal coords �
 abbrev pub EntryMoves : Type 0
 EntryMoves =
     (coords : List Float) → local_refusal coords ≡ 0
-    → ((to_local_answer coords).0 ≡ Place.Is (named3 (origin_of (unmoved coords)))) × (vertices_of (to_local_answer coords).1 ≡ moved coords)
+    → ((to_local_answer coords).0 ≡ Place.Is (named3 (origin_of (unmoved coords))))
+    × (vertices_of (to_local_answer coords).1 ≡ moved coords)
 
 -- a second call answers 0, 0, 0 and leaves the list, unless the cell is so wide that a moved coordinate is beyond 2 ^ 40
 abbrev pub MovedTwice : Type 0

@@ -19,8 +19,10 @@ use Rattle.geometry.specs.declared.Clipped.{Clipped}
 use Rattle.geometry.specs.Points.{to_local_answer, local_origin_answer}
 use Rattle.geometry.proofs.Answers.{origin_alike}
 use Rattle.geometry.specs.TurnFaces.{can_turn_answer, TurnFacesGives}
-use Rattle.geometry.specs.Listed.{Listed, Reply, told, written, of_number, of_count, of_face_cut, of_done, done_told, of_shape, clipping_told}
-use Rattle.geometry.specs.Listed.{measure_told, of_overlapped, overlap_told, of_place, count_told, to_local_told, code_without_room, TurnFacesTold}
+use Rattle.geometry.specs.Listed.{Listed, Reply, told, written, of_number, of_count, of_face_cut, of_done, done_told, of_shape}
+use Rattle.geometry.specs.Listed.{clipping_told}
+use Rattle.geometry.specs.Listed.{measure_told, of_overlapped, overlap_told, of_place, count_told, to_local_told, code_without_room}
+use Rattle.geometry.specs.Listed.{TurnFacesTold}
 
 -- ---- beside the work lists
 pub shown_by : {c d : Clipped × List Float × List Float} → c ≡ d → (shown : List ℕ) {t : ℕ × List ℕ × List Float × List Float}
@@ -34,7 +36,8 @@ measured_by e out p = rw (← e, ap (λ (t : Reply). t.0) p, ap (λ (t : Reply).
 
 pub overlapped_by : {a : Overlapped} {first second : List Float} {answer : Overlapped × List Float × List Float}
     → (a, first, second) ≡ answer → (out : List Float) (arealess : List ℕ) {r : ℕ} {out' : List Float} {arealess' : List ℕ}
-    → told r out' arealess' ≡ written (of_overlapped a) out arealess → (r, out', arealess', first, second) ≡ overlap_told answer out arealess
+    → told r out' arealess' ≡ written (of_overlapped a) out arealess
+    → (r, out', arealess', first, second) ≡ overlap_told answer out arealess
 overlapped_by e out arealess p = rw (← e, ap (λ (t : Reply). t.0) p, ap (λ (t : Reply). t.1) p, ap (λ (t : Reply). t.2) p)
 
 -- ---- beside a list that is turned

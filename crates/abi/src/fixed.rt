@@ -1,7 +1,8 @@
 // The fixed shapes under C names: their corners in one list, three numbers each. Another length is refused 1; any bits pass.
 ghost use Rattle.std.specs.Prelude.{◌≡◌, [], ◌∷◌};
 ghost use Rattle.places.specs.Loops.{one_if};
-ghost use Rattle.geometry.specs.Leaves.{vertices_of, tet_volume_of_list, wedge_volume_of, hex_volume_of, tet_contains_of, wedge_contains_of};
+ghost use Rattle.geometry.specs.Leaves.{vertices_of, tet_volume_of_list, wedge_volume_of, hex_volume_of, tet_contains_of};
+ghost use Rattle.geometry.specs.Leaves.{wedge_contains_of};
 ghost use Rattle.geometry.specs.Leaves.{hex_contains_of};
 ghost use Rattle.geometry.specs.Listed.{told, written, values, of_shape};
 

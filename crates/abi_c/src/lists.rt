@@ -2,7 +2,8 @@
 ghost use Rattle.std.specs.Prelude.{◌≡◌, []};
 ghost use Rattle.geometry.specs.Points.{newell_normal_answer, vertex_centroid_answer, list_bounds_answer};
 ghost use Rattle.geometry.specs.Points.{signed_area2_answer, vertex_centroid2_answer, bounds2_answer, into_ccw2_answer};
-ghost use Rattle.geometry.specs.Listed.{told, written, of_number, of_place, of_extent, of_plane_place, of_plane_extent, done_told, to_local_told};
+ghost use Rattle.geometry.specs.Listed.{told, written, of_number, of_place, of_extent, of_plane_place, of_plane_extent, done_told};
+ghost use Rattle.geometry.specs.Listed.{to_local_told};
 
 #[unsafe(no_mangle)]
 pub extern "C" fn wegrusamt_newell_normal(coords: &[f64], out: &mut [f64]) -> u8

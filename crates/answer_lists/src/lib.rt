@@ -9,7 +9,8 @@ ghost use Rattle.places.specs.Loops.{one_if};
 ghost use Rattle.geometry.specs.declared.Surveyed.{Surveyed};
 ghost use Rattle.geometry.specs.declared.Described.{Described};
 ghost use Rattle.geometry.specs.Listed.{told, values, written, shape_number, of_number, of_truth, of_count, of_face_cut, of_place};
-ghost use Rattle.geometry.specs.Listed.{of_plane_place, of_extent, of_plane_extent, of_done, of_surveyed, of_described, of_face_plane, of_clipped};
+ghost use Rattle.geometry.specs.Listed.{of_plane_place, of_extent, of_plane_extent, of_done, of_surveyed, of_described, of_face_plane};
+ghost use Rattle.geometry.specs.Listed.{of_clipped};
 ghost use Rattle.geometry.specs.Listed.{of_overlapped};
 ghost use Rattle.geometry.specs.Listed.{code_without_room};
 

@@ -44,7 +44,8 @@ of_place_lem i j (x ∷ l) zero h e = rw e (omega (arith, bit_self i j))
 of_place_lem i j (x ∷ l) (suc k) h e = omega (arith, of_place_lem i j l k (omega arith) e)
 
 -- sides that start at different places are different
-once_in : (i j : ℕ) (l : List (ℕ × ℕ)) → ((p q : ℕ) → p < q → q < length l → (get_or l p (0, 0)).0 ≢ (get_or l q (0, 0)).0) → count i j l ≤ 1
+once_in : (i j : ℕ) (l : List (ℕ × ℕ)) → ((p q : ℕ) → p < q → q < length l → (get_or l p (0, 0)).0 ≢ (get_or l q (0, 0)).0)
+    → count i j l ≤ 1
 once_in i j [] h = omega arith
 once_in i j (e ∷ l) h = go (once_in i j l (λ p q a b. h (suc p) (suc q) (omega arith) (omega arith))) (from_to i j e) refl
   where

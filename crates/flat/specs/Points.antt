@@ -56,7 +56,8 @@ abbrev pub Box : Type 0
 Box = List Point
 
 unfoldable pub widen_of : ℕ → Point → Box → Box
-widen_of D p box = point_by D (λ k. least_of (at (get_or box 0 []) k) (at p k)) ∷ point_by D (λ k. largest_of (at (get_or box 1 []) k) (at p k)) ∷ []
+widen_of D p box = point_by D (λ k. least_of (at (get_or box 0 []) k) (at p k))
+    ∷ point_by D (λ k. largest_of (at (get_or box 1 []) k) (at p k)) ∷ []
 
 abbrev pub no_box : ℕ → Box
 no_box D = point_by D (λ k. inf false) ∷ point_by D (λ k. inf true) ∷ []

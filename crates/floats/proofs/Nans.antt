@@ -45,7 +45,8 @@ only_nan nan h = refl
 only_nan (inf s) h = absurd (holds h)
 only_nan (fin s m e) h = absurd (holds h)
 
-pub above_infinity : (b : ℕ) → 0x7ff0_0000_0000_0000 < b % 2 ^ 63 → div binary64 (of_bits binary64 0) (of_bits binary64 0) ≡ of_bits binary64 b
+pub above_infinity : (b : ℕ) → 0x7ff0_0000_0000_0000 < b % 2 ^ 63
+    → div binary64 (of_bits binary64 0) (of_bits binary64 0) ≡ of_bits binary64 b
 above_infinity b h =
     quotient ∙ only_nan (of_bits binary64 b) (sym (nan_bits_is binary64 b) ∙ nan_bits_above binary64 b
     ∙ lt-ltb 0x7ff0_0000_0000_0000 (b % 2 ^ 63) h)

@@ -1,5 +1,5 @@
--- `CorrectlyRounded` and `NoTie` of specs/Nearest.antt hold. The first is what proofs/Taken.antt says of `round_root`, which is in range for
--- a root. Were the root the mid-point of two values, it would be a value itself, since its square is one, and then a nearer one.
+-- `CorrectlyRounded` and `NoTie` of specs/Nearest.antt hold. The first is what proofs/Taken.antt says of `round_root`, which is in range
+-- for a root. Were the root the mid-point of two values, it would be a value itself, since its square is one, and then a nearer one.
 use mathlib.Core.Path.{◌≡◌, refl, sym, ap, ◌∙◌, subst}
 use mathlib.Core.Logic.{◌≢◌}
 use Prim.Native.Nat.{ℕ, zero, suc, ◌+◌, ◌-◌, ◌*◌, ◌/◌, ◌%◌, ◌^◌, ◌≤◌, ◌<◌, compare}

@@ -7,6 +7,7 @@ use borrow.Author.Tests.{le-leb, lt-leb}
 use lib.Ieee.{Float, nan, inf, Format, prec, low, hid, ones, top, odd, neg, fits, of_fields, of_bits, to_bits}
 use lib.Ieee.Bits.{of_bits-to_bits}
 use Rattle.floats.specs.Pick.{magnitude_of}
+use Rattle.floats.proofs.Nans.{is_nan_lem, no_nan}
 
 -- x is the magnitude of itself, or its negation is
 abbrev Signed : Bool → Float → Type 0
@@ -53,3 +54,6 @@ clear f x h l = sym (subst (λ (s : Bool). Signed s x) (lt-leb (top f) (to_bits 
 
 pub set : (f : Format) (x : Float) → T (fits f x) → top f ≤ to_bits f x → neg x ≡ magnitude_of x
 set f x h l = sym (subst (λ (s : Bool). Signed s x) (le-leb (top f) (to_bits f x) l) (value_signed f x h))
+
+-- for `magnitude`: what the sign's bit says of x, and that the test `x != x` finds the NaN
+pub ruleset sign_cleared = (of_nan, clear, set, is_nan_lem, no_nan)

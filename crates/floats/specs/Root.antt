@@ -20,7 +20,7 @@ unfoldable pub root_of_pairs : ℕ → ℕ → ℕ
 root_of_pairs zero n = 0
 root_of_pairs (suc d) n = raised n (2 * root_of_pairs d (n / 4))
 
--- The largest r with r * r ≤ n (`floor_root_lem` of proofs/Squares.antt): n has `size n` binary digits, and no more pairs of them than that.
+-- The largest r with r * r ≤ n (`floor_root_lem` of proofs/Squares.antt): n has `size n` binary digits, and no more pairs than that.
 unfoldable pub floor_root : ℕ → ℕ
 unfolding root_of_pairs size
 floor_root n = root_of_pairs (size n) n

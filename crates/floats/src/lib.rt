@@ -12,7 +12,7 @@ ghost use Rattle.floats.specs.Root.{root_of};
 
 // x with its sign cleared; a NaN stays a NaN. The sign is read from the pattern, since no comparison sees that of -0.
 // Rules out: a magnitude that leaves -0 as it is; one that leaves every number as it is.
-#[tactic(auto, using(crate::proofs::Signs::clear, crate::proofs::Signs::set, crate::proofs::Signs::of_nan, crate::proofs::Nans::is_nan_lem, crate::proofs::Nans::no_nan))]
+#[tactic(auto, using(crate::proofs::Signs::sign_cleared))]
 pub fn magnitude(x: f64) -> f64
     ensures { result ≡ magnitude_of x }
 {

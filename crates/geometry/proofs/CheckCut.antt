@@ -39,7 +39,11 @@ yes_for_cuts n places {r} e = (λ t. go (eqb (check_refusal n places) 0) refl (s
     go : (b : Bool) → eqb (check_refusal n places) 0 ≡ b
         → cond b (Truth.Is (is_cut_of n (in_threes places))) (Truth.Refused (check_refusal n places)) ≡ Truth.Is true
         → (check_refusal n places ≡ 0) × IsCut n (in_threes places)
-    go true p q = (eqb-true (check_refusal n places) 0 p, (cut_test n (in_threes places)).0 (same_truth (is_cut_of n (in_threes places)) true q))
+    go true p q = (
+      eqb-true (check_refusal n places) 0 p,
+      (cut_test n (in_threes places)).0
+          (same_truth (is_cut_of n (in_threes places)) true q),
+    )
     go false p q = absurd (not_refused (check_refusal n places) true q)
 
     back : (check_refusal n places ≡ 0) × IsCut n (in_threes places) → r ≡ Truth.Is true

@@ -1,5 +1,5 @@
--- An entry that cuts one face of a cell, by vertex number or by place, answers `cut_answer`, since its two tests are the two refusals of the
--- definition, in their order; and past both it may cut, since the face is then one of a sound cell and has room.
+-- An entry that cuts one face of a cell, by vertex number or by place, answers `cut_answer`, since its two tests are the two refusals of
+-- the definition, in their order; and past both it may cut, since the face is then one of a sound cell and has room.
 use mathlib.Core.Path.{◌≡◌, refl, sym, ◌∙◌, ap}
 use mathlib.Core.Logic.{◌≢◌}
 use mathlib.Core.Bool.{Bool, true, false, cond}

@@ -67,7 +67,8 @@ room_in_plane first second = shorter_of (length (in_pairs first)) (length (in_pa
 -- clip_face: what planes leave of the face k of a cell
 unfoldable pub clip_face_answer : List Float → List ℕ → List ℕ → ℕ → List Float → Float → List Float → List Float → Clipping
 clip_face_answer coords corners ends k planes eps first second =
-    let o = clip_face_of (room_in_space first second) eps (in_fours planes) (corners_of (vertices_of coords) (face_numbered corners ends k)) in
+    let o = clip_face_of (room_in_space first second) eps (in_fours planes)
+    (corners_of (vertices_of coords) (face_numbered corners ends k)) in
     clipping_of (clip_refusal coords corners ends k planes first second) o first second
 
 -- clip_convex: what the edges of an outline of the plane leave of another

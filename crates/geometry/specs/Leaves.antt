@@ -10,7 +10,8 @@ use Rattle.flat.specs.Points.{vertex_of}
 pub use Rattle.flat.specs.Points.{vertices_of}
 unfoldable pub use Rattle.flat.specs.Flat.{cross2_of, axis_of, project2_of, crossing_of}
 unfoldable pub use Rattle.clip_step.specs.ClipStep.{segment_plane_of}
-unfoldable pub use Rattle.shapes.specs.Shapes.{tet_volume_of, wedge_volume_of, hex_volume_of, tet_contains_of, wedge_contains_of, hex_contains_of}
+unfoldable pub use Rattle.shapes.specs.Shapes.{tet_volume_of, wedge_volume_of, hex_volume_of}
+unfoldable pub use Rattle.shapes.specs.Shapes.{tet_contains_of, wedge_contains_of, hex_contains_of}
 use Rattle.planes.specs.Planes.{same_side, coplanar_opposite}
 use Rattle.planes.specs.declared.Plane as planes
 use Rattle.geometry.specs.declared.Plane.{Plane}

@@ -194,4 +194,5 @@ pub record TurnFacesTold (coords : List Float) (corners ends out : List ℕ) (co
   pub count : Count
   pub turns : ltb (length out) 1 ≡ false
       → TurnFacesGives coords corners ends count after × (told code [] out' ≡ written (of_count count) [] out)
-  pub untold : ltb (length out) 1 ≡ true → (code ≡ code_without_room (can_turn_answer coords corners ends)) × (after ≡ corners) × (out' ≡ out)
+  pub untold : ltb (length out) 1 ≡ true
+      → (code ≡ code_without_room (can_turn_answer coords corners ends)) × (after ≡ corners) × (out' ≡ out)

@@ -1,6 +1,7 @@
 // Lists of points of space, stored in threes.
 ghost use Rattle.std.specs.Prelude.{◌≡◌};
-ghost use Rattle.geometry.specs.Points.{newell_normal_answer, vertex_centroid_answer, list_bounds_answer, to_local_answer, local_origin_answer};
+ghost use Rattle.geometry.specs.Points.{newell_normal_answer, vertex_centroid_answer, list_bounds_answer, to_local_answer};
+ghost use Rattle.geometry.specs.Points.{local_origin_answer};
 
 // The Newell sums.
 // Ruled out: leaving out the side from the last point to the first; a unit normal.

@@ -38,7 +38,8 @@ module _ {A : Type 0} where
       let e2 : suc (suc (suc (i * 3))) + 2 ≡ suc (suc (suc (i * 3 + 2))) = omega arith in
       rw (e, e1, e2) (threes_at l i d (omega arith))
 
-  pub pairs_at : (l : List A) (i : ℕ) (d : A) → i < length l / 2 → get_or (in_pairs l) i [] ≡ get_or l (i * 2) d ∷ get_or l (i * 2 + 1) d ∷ []
+  pub pairs_at : (l : List A) (i : ℕ) (d : A) → i < length l / 2
+      → get_or (in_pairs l) i [] ≡ get_or l (i * 2) d ∷ get_or l (i * 2 + 1) d ∷ []
   unfolding in_pairs
   pairs_at [] i d h = absurd (omega arith)
   pairs_at (a ∷ []) i d h = absurd (omega arith)

@@ -18,7 +18,8 @@ module _ {A S : Type 0} {f : A → A → S → S} {l : List A} {whole : S} where
   pub walk_start : {a : A} {s : S} (d : A) → 0 < length l → a ≡ get_or l 0 d → fold_pairs f (sides l) s ≡ whole → Walking f l whole a 1 a s
   walk_start {a} {s} d h q e = record { within = h; so = rw q (go l h e) }
     where
-      go : (l : List A) → 0 < length l → fold_pairs f (sides l) s ≡ whole → fold_pairs f (walk (get_or l 0 d) (drop 1 l) (get_or l 0 d)) s ≡ whole
+      go : (l : List A) → 0 < length l → fold_pairs f (sides l) s ≡ whole
+          → fold_pairs f (walk (get_or l 0 d) (drop 1 l) (get_or l 0 d)) s ≡ whole
       go [] h e = absurd (omega arith)
       go (x ∷ xs) h e = e
 

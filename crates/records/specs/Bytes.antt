@@ -31,4 +31,10 @@ clear_of s at =
 
 -- the record whose 32 bytes begin at at
 abbrev pub record_of : List ℕ → ℕ → Rec
-record_of s at = record { kind = get_or s at 0; clear = clear_of s at; a = word_of s (at + 8); b = word_of s (at + 16); c = word_of s (at + 24) }
+record_of s at = record {
+  kind = get_or s at 0;
+  clear = clear_of s at;
+  a = word_of s (at + 8);
+  b = word_of s (at + 16);
+  c = word_of s (at + 24);
+}

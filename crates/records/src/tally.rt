@@ -3,7 +3,8 @@ ghost use Rattle.std.specs.Prelude.{◌≡◌, Bool, [], ◌∷◌, ◌+◌, ◌
 ghost use Rattle.std.proofs.lemmas.List.Edits.{sets};
 ghost use Rattle.places.specs.Limits.{most_coordinates, most_faces, most_corners};
 ghost use Rattle.records.specs.Tally.{why_of, corner_fine, end_fine, vertex_why, corner_why, face_end_why, cell_end_why, query_why, new_of};
-ghost use Rattle.records.specs.Tally.{refused_of, vertex_taken, corner_taken, face_end_taken, cell_end_taken, query_taken, fields_of, added};
+ghost use Rattle.records.specs.Tally.{refused_of, vertex_taken, corner_taken, face_end_taken, cell_end_taken, query_taken, fields_of};
+ghost use Rattle.records.specs.Tally.{added};
 ghost use Rattle.records.specs.Tally.{Sized, Fits};
 ghost use Rattle.records.specs.Steps.{Tallied};
 

@@ -350,7 +350,8 @@ pub record Planar (subject clip first second : List Float) : Type 0 where
   pub first_few : length first ≤ 3072
   pub second_few : length second ≤ 3072
 
-pub planar_known : (subject clip first second : List Float) → planar_refusal subject clip first second ≡ 0 → Planar subject clip first second
+pub planar_known : (subject clip first second : List Float) → planar_refusal subject clip first second ≡ 0
+    → Planar subject clip first second
 unfolding planar_refusal
 planar_known subject clip first second e =
     let lists = or_zero _ _ e in

@@ -3,7 +3,8 @@
 -- turning the backward faces, `point_in_phed`, clipping, the overlap and the report's query points.
 -- The refusal 6 of clipping and the overlaps, which is found on the way, is not among these.
 use Rattle.std.specs.Prelude.{Bool, not, ◌&&◌, ◌||◌, cond, List, [], ◌∷◌, ℕ, ◌-◌, ◌%◌, leb, ltb, eqb, length, get_or, Float}
-use Rattle.places.specs.Limits.{most_marked_corners, most_queries, most_planes, most_checked_corners, most_checked_triangles, most_plane_points}
+use Rattle.places.specs.Limits.{most_marked_corners, most_queries, most_planes, most_checked_corners, most_checked_triangles}
+use Rattle.places.specs.Limits.{most_plane_points}
 use Rattle.places.specs.Limits.{most_work_numbers}
 use Rattle.places.specs.Loops.{any_of}
 use Rattle.places.specs.Stored.{in_threes, in_pairs}
@@ -125,7 +126,8 @@ clip_refusal coords corners ends k planes first second =
 
 -- planar clipping, room apart: the subject through 2, with the work lists in its 1, then the clip list
 unfoldable pub planar_refusal : List Float → List Float → List Float → List Float → ℕ
-planar_refusal subject clip first second = first_refusal (works_refusal first second) (first_refusal (plane_refusal subject) (plane_refusal clip))
+planar_refusal subject clip first second = first_refusal (works_refusal first second)
+    (first_refusal (plane_refusal subject) (plane_refusal clip))
 
 -- the overlap, room apart: the first cell through 5, with the work lists in its 1, then the second
 unfoldable pub overlap_refusal : List Float → List ℕ → List ℕ → List Float → List ℕ → List ℕ → List Float → List Float → ℕ

@@ -22,7 +22,8 @@ wiped_from : (left i : ℕ) (l : List Float) → i + left ≡ length l → fold_
 unfolding fold_from
 wiped_from zero i l h = sym (append-nil (take i l) ∙ take_all i l (omega arith))
 wiped_from (suc left) i l h =
-    wiped_from left (i + 1) (zero_at i l) (rw length-set (omega arith)) ∙ rw (add-one i, take-suc-set l i zero64 (omega arith), append_assoc)
+    wiped_from left (i + 1) (zero_at i l) (rw length-set (omega arith))
+    ∙ rw (add-one i, take-suc-set l i zero64 (omega arith), append_assoc)
 
 pub wipe_start : (l : List Float) (start : ℕ) → start ≤ length l → Folding zero_at (length l) (wiped start l) start l
 wipe_start l start h = record { within = h; so = wiped_from (length l - start) start l (omega arith) }

@@ -30,17 +30,20 @@ returns-then-b c =
 
 pub returns-then-b-gt9223372036854775808 : goal.returns-then-b-gt9223372036854775808
 returns-then-b-gt9223372036854775808 c =
-    root_below c.args.x (held (goal.at.returns-then-b-gt9223372036854775808 c).Start) c.if-b-gt9223372036854775808.true (to_bits-lt binary64 c.args.x (held (goal.at.returns-then-b-gt9223372036854775808 c).Start))
+    root_below c.args.x (held (goal.at.returns-then-b-gt9223372036854775808 c).Start) c.if-b-gt9223372036854775808.true
+    (to_bits-lt binary64 c.args.x (held (goal.at.returns-then-b-gt9223372036854775808 c).Start))
 
 pub returns-then-b-eq9218868437227405312 : goal.returns-then-b-eq9218868437227405312
 returns-then-b-eq9218868437227405312 c =
-    own_root c.args.x 0x7ff0_0000_0000_0000 (held (goal.at.returns-then-b-eq9218868437227405312 c).Start) c.if-b-eq9218868437227405312.true plus_infinity
+    own_root c.args.x 0x7ff0_0000_0000_0000
+    (held (goal.at.returns-then-b-eq9218868437227405312 c).Start) c.if-b-eq9218868437227405312.true plus_infinity
 
 pub root_pattern-requires : goal.root_pattern-requires
 root_pattern-requires c =
     let b = to_bits binary64 c.args.x in
     let below-sign : b < 2 ^ 63 = omega (arith, c.if-b-gt9223372036854775808.false, c.if-b.false) in
-    let finite : b ≤ 0x7ff0_0000_0000_0000 = at_most_infinity c.args.x (held (goal.at.root_pattern-requires c).Start) (no_nan c.args.x c.if-x.false) below-sign in
+    let finite : b ≤ 0x7ff0_0000_0000_0000 = at_most_infinity c.args.x (held (goal.at.root_pattern-requires c).Start)
+    (no_nan c.args.x c.if-x.false) below-sign in
     omega (arith, c.if-b-eq9218868437227405312.false, c.if-b-eq0.false)
 
 pub returns : goal.returns

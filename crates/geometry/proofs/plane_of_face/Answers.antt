@@ -51,13 +51,15 @@ of_face_lem vs e q = rw (← e) q
 pub returns-then-not-found : goal.returns-then-not-found
 unfolding plane_of_face_answer
 returns-then-not-found c =
-    let is = handed_no_area (asked_for (goal.at.returns-then-not-found c).Else-why-ne0) (of_face_lem _ c.face_by_number-part.ensures c.plane_of_face-found.ensures)
+    let is = handed_no_area (asked_for (goal.at.returns-then-not-found c).Else-why-ne0)
+    (of_face_lem _ c.face_by_number-part.ensures c.plane_of_face-found.ensures)
     (not-true _ c.if-not-found.true) in
     passed c.faces_refusal-why.ensures _ c.if-why-ne0.false (rw is c.without_plane-then-not-found.ensures)
 
 pub returns : goal.returns
 unfolding plane_of_face_answer
 returns c =
-    let is = handed_plane (asked_for (goal.at.returns c).Else-why-ne0) (of_face_lem _ c.face_by_number-part.ensures c.plane_of_face-found.ensures)
+    let is = handed_plane (asked_for (goal.at.returns c).Else-why-ne0)
+    (of_face_lem _ c.face_by_number-part.ensures c.plane_of_face-found.ensures)
     (not-false _ c.if-not-found.false) in
     passed c.faces_refusal-why.ensures _ c.if-why-ne0.false (rw is)

@@ -43,7 +43,8 @@ returns-then-cs-gt-MOST_MARKED_CORNERS c =
 pub returns-then-number_refused : goal.returns-then-number_refused
 unfolding phed_refusal
 returns-then-number_refused c =
-    row_passed 1 _ (sized (goal.at.returns-then-number_refused c).Else-cs-gt-MOST_MARKED_CORNERS) (row_applies 2 _ (either_first _ c.number_refused.ensures c.if-number_refused.true))
+    row_passed 1 _ (sized (goal.at.returns-then-number_refused c).Else-cs-gt-MOST_MARKED_CORNERS)
+    (row_applies 2 _ (either_first _ c.number_refused.ensures c.if-number_refused.true))
 
 pub returns-then-number_refused-2 : goal.returns-then-number_refused-2
 unfolding phed_refusal
@@ -60,9 +61,13 @@ strays_in-requires c =
 pub returns-then-strays_in : goal.returns-then-strays_in
 unfolding phed_refusal
 returns-then-strays_in c =
-    row_passed 1 _ (sized (goal.at.returns-then-strays_in c).Else-cs-gt-MOST_MARKED_CORNERS) (row_passed 2 _ (numbered (goal.at.returns-then-strays_in c).Else-number_refused-2) (row_yes 4 _ (searched (goal.at.returns-then-strays_in c).After-strays_in) c.if-strays_in.true))
+    row_passed 1 _ (sized (goal.at.returns-then-strays_in c).Else-cs-gt-MOST_MARKED_CORNERS)
+    (row_passed 2 _ (numbered (goal.at.returns-then-strays_in c).Else-number_refused-2)
+    (row_yes 4 _ (searched (goal.at.returns-then-strays_in c).After-strays_in) c.if-strays_in.true))
 
 pub returns : goal.returns
 unfolding phed_refusal
 returns c =
-    row_passed 1 _ (sized (goal.at.returns c).Else-cs-gt-MOST_MARKED_CORNERS) (row_passed 2 _ (numbered (goal.at.returns c).Else-number_refused-2) (row_no 4 _ (searched (goal.at.returns c).After-strays_in) c.if-strays_in.false no_row))
+    row_passed 1 _ (sized (goal.at.returns c).Else-cs-gt-MOST_MARKED_CORNERS)
+    (row_passed 2 _ (numbered (goal.at.returns c).Else-number_refused-2)
+    (row_no 4 _ (searched (goal.at.returns c).After-strays_in) c.if-strays_in.false no_row))

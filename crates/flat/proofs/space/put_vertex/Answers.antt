@@ -16,7 +16,10 @@ room c = omega (arith, length_threes c.args.coords.now)
 pub returns : goal.returns
 returns c =
     let below : c.args.v < length c.args.coords.now / 3 = omega (arith, room (goal.at.returns c).Start) in
-    record { vertices = threes_set c.args.coords.now c.args.v c.args.p nan (search rules) below; over = over_threes_set c.args.coords.now c.args.v _ _ _ below }
+    record {
+      vertices = threes_set c.args.coords.now c.args.v c.args.p nan (search rules) below;
+      over = over_threes_set c.args.coords.now c.args.v _ _ _ below;
+    }
 
 pub overflow_mul-i : goal.overflow_mul-i
 overflow_mul-i c = omega (arith, room (goal.at.overflow_mul-i c).Start)

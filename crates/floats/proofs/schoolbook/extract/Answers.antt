@@ -17,9 +17,14 @@ fine c =
 
 pub step-r-requires : goal.step-r-requires
 step-r-requires c =
-    record { root_bound = (fine (goal.at.step-r-requires c).In-loop-i).0; rest_bound = omega arith; pair_bound = omega (arith, (fine (goal.at.step-r-requires c).In-loop-i).1) }
+    record {
+      root_bound = (fine (goal.at.step-r-requires c).In-loop-i).0;
+      rest_bound = omega arith;
+      pair_bound = omega (arith, (fine (goal.at.step-r-requires c).In-loop-i).1);
+    }
 
 pub loop-i-preserved : goal.loop-i-preserved
 loop-i-preserved c =
-    let down = one_pair (all (goal.at.loop-i-preserved c).Start) c.loop-i.i c.loop-i.r.root c.loop-i.r.rest c.loop-i.left c.step-r.result.root c.step-r.result.rest in
+    let down = one_pair (all (goal.at.loop-i-preserved c).Start) c.loop-i.i c.loop-i.r.root c.loop-i.r.rest c.loop-i.left
+    c.step-r.result.root c.step-r.result.rest in
     (omega arith, down c.loop-i.invariant.1 c.step-r.ensures)

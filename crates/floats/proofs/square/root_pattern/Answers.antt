@@ -12,7 +12,8 @@ extracted : (c : After-extract-all)
     → Extracted (c.scale-s.result.a * 2 ^ 54) c.extract-all.result.root c.extract-all.result.rest
 extracted c =
     zeros_behind c.scale-s.result.a c.extract-all.result.root c.extract-all.result.rest
-    (both c.scale-s.result.a 0 c.extract-first.result.root c.extract-first.result.rest c.extract-all.result.root c.extract-all.result.rest c.extract-first.ensures c.extract-all.ensures)
+    (both c.scale-s.result.a 0 c.extract-first.result.root c.extract-first.result.rest c.extract-all.result.root
+    c.extract-all.result.rest c.extract-first.ensures c.extract-all.ensures)
 
 pub overflow_add-result : goal.overflow_add-result
 overflow_add-result c =

@@ -15,7 +15,8 @@ loop-a-preserved c =
 
 pub returns : goal.returns
 returns c =
-    small_scaled c.args.b c.loop-a.a c.loop-a.d c.requires.b_bound c.loop-a-test.false c.loop-a.invariant.1 (few_turns (goal.at.returns c).At-loop-a)
+    small_scaled c.args.b c.loop-a.a c.loop-a.d c.requires.b_bound c.loop-a-test.false c.loop-a.invariant.1
+    (few_turns (goal.at.returns c).At-loop-a)
     c.loop-a.invariant.2
 
 pub overflow_add-d : goal.overflow_add-d

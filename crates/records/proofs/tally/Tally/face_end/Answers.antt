@@ -28,7 +28,10 @@ overflow_add-t c = omega (arith, room (goal.at.overflow_add-t c).Then-w-eq0)
 
 pub returns-then-w-eq0 : goal.returns-then-w-eq0
 unfolding face_end_taken
-returns-then-w-eq0 c = record { value = simp (eq-eqb _ _ (fine (goal.at.returns-then-w-eq0 c).Then-w-eq0)); ends_value = simp (eq-eqb _ _ (fine (goal.at.returns-then-w-eq0 c).Then-w-eq0)) }
+returns-then-w-eq0 c = record {
+  value = simp (eq-eqb _ _ (fine (goal.at.returns-then-w-eq0 c).Then-w-eq0));
+  ends_value = simp (eq-eqb _ _ (fine (goal.at.returns-then-w-eq0 c).Then-w-eq0));
+}
 
 pub returns : goal.returns
 unfolding face_end_taken

@@ -29,7 +29,10 @@ overflow_add-t c = omega (arith, room (goal.at.overflow_add-t c).Then-w-eq0)
 pub returns-then-w-eq0 : goal.returns-then-w-eq0
 unfolding query_taken
 returns-then-w-eq0 c =
-    record { value = simp (eq-eqb _ _ (fine (goal.at.returns-then-w-eq0 c).Then-w-eq0)); queries_value = simp (eq-eqb _ _ (fine (goal.at.returns-then-w-eq0 c).Then-w-eq0)) c.put_point.ensures }
+    record {
+      value = simp (eq-eqb _ _ (fine (goal.at.returns-then-w-eq0 c).Then-w-eq0));
+      queries_value = simp (eq-eqb _ _ (fine (goal.at.returns-then-w-eq0 c).Then-w-eq0)) c.put_point.ensures;
+    }
 
 pub returns : goal.returns
 unfolding query_taken

@@ -15,7 +15,8 @@ use Rattle.worked.specs.CheckCut.{Claim}
 
 -- every definition on the way to an answer
 unfoldable checked : Unit {0}
-unfolding any_of next_of places_below in_threes joined runs doubled face_side not_different own_way each_way is_cut_of first_row index_refused
+unfolding any_of next_of places_below in_threes joined runs doubled face_side not_different own_way each_way is_cut_of first_row
+    index_refused
 checked = tt
 
 unfoldable computed : Unit {0}

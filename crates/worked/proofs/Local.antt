@@ -13,8 +13,9 @@ use Rattle.worked.specs.Local.{Claim}
 
 -- every definition on the way to an answer
 unfoldable computed : Unit {0}
-unfolding of_bits of_int to_signed add sub neg sum round le any_of in_threes joined exact_in exact_of minus_of first_row points_refused number_refused
-    out_of_range whole_of origin_of moved_by lost_of inexact stays_behind move_refused first_refusal list_refusal local_refusal to_local_answer
+unfolding of_bits of_int to_signed add sub neg sum round le any_of in_threes joined exact_in exact_of minus_of first_row points_refused
+    number_refused out_of_range whole_of origin_of moved_by lost_of inexact stays_behind move_refused first_refusal list_refusal
+    local_refusal to_local_answer
 computed = tt
 
 pub worked_local : Claim

@@ -16,7 +16,8 @@ use Rattle.exact.specs.Facing.{reversed_by, how_many, strange, doubled, unfit, c
 use Rattle.exact.proofs.Test.{closed_test}
 use Rattle.exact.proofs.Conditions.{unfit_is, unfit_not, unclosable_is}
 use Rattle.cell.specs.Faces.{faces_of}
-use Rattle.cell.specs.Refusals.{refusal_of, first_row, size_refused, points_refused, number_refused, out_of_range, ends_refused, index_refused}
+use Rattle.cell.specs.Refusals.{refusal_of, first_row, size_refused, points_refused, number_refused, out_of_range, ends_refused}
+use Rattle.cell.specs.Refusals.{index_refused}
 use Rattle.refusals.specs.Refusals.{cell_refusal, turn_faces_refusal}
 use Rattle.geometry.specs.declared.Count.{Count}
 use Rattle.geometry.specs.TurnFaces.{TurnFacesGives}
@@ -67,7 +68,8 @@ module _ {coords : List Float} {corners ends : List ℕ} where
   refused_by : (why : ℕ) → turn_faces_refusal coords corners ends ≡ suc why
       → TurnFacesGives coords corners ends (Count.Refused (suc why)) corners
   refused_by why e =
-      let n : eqb (turn_faces_refusal coords corners ends) 0 ≡ false = ne_eqb (turn_faces_refusal coords corners ends) 0 (λ z. omega arith) in
+      let n : eqb (turn_faces_refusal coords corners ends) 0 ≡ false =
+      ne_eqb (turn_faces_refusal coords corners ends) 0 (λ z. omega arith) in
       record {
         choice = λ k. false;
         answer = rw (n, e);

@@ -140,7 +140,8 @@ table =
     ∷ row (clipping (up_to one64) zero64 (level zero64 zero64 ∷ level two64 zero64 ∷ level two64 two64 ∷ level zero64 two64 ∷ []))
     (leaves (outline true (level zero64 zero64 ∷ level one64 zero64 ∷ level one64 two64 ∷ level zero64 two64 ∷ [])))
     -- from (0.75,0,0) to (1.25,4,0), plane x = 0, eps 1: t = −1.5, point (0,−6,0)
-    ∷ row (crossing (up_to zero64) one64 (level three_quarters zero64) (level five_quarters n4)) (crosses true false m1half (level zero64 m6))
+    ∷ row (crossing (up_to zero64) one64 (level three_quarters zero64) (level five_quarters n4))
+    (crosses true false m1half (level zero64 m6))
     -- the squares (0,0)–(2,2) and (1,1)–(3,3); the same subject and an empty clip list
     ∷ row (overlapping (square zero64 two64) (square one64 n3)) (area one64)
     ∷ row (overlapping (square zero64 two64) []) (area n4)

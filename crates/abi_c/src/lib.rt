@@ -7,4 +7,4 @@ pub mod clips;
 pub mod fixed;
 pub mod leaves;
 pub mod lists;
-pub mod outward;
+pub mod turning;

@@ -37,10 +37,10 @@ pub fn counted(
         20 => abi::cells::wegrusamt_closed(coords, corners, ends, counts),
         21 => abi::cells::wegrusamt_contains(coords, corners, ends, x, y, z, counts),
         22 => abi::cells::wegrusamt_point_in_phed(coords, corners, x, y, z, counts),
-        23 => abi::outward::wegrusamt_is_convex(coords, corners, ends, shape, counts),
-        24 => abi::outward::wegrusamt_describe(coords, corners, ends, shape, counts),
+        23 => abi::turning::wegrusamt_is_convex(coords, corners, ends, shape, counts),
+        24 => abi::turning::wegrusamt_describe(coords, corners, ends, shape, counts),
         25 => abi::cells::wegrusamt_check_cut(low(word(q, 1)), corners, counts),
-        26 => abi::outward::wegrusamt_no_area_faces(coords, corners, ends, counts),
+        26 => abi::turning::wegrusamt_no_area_faces(coords, corners, ends, counts),
         _ => unknown(q),
     }
 }
@@ -67,7 +67,7 @@ pub fn surveyed(
             counts,
             values,
         ),
-        32 => abi::outward::wegrusamt_plane_of_face(
+        32 => abi::turning::wegrusamt_plane_of_face(
             coords,
             corners,
             ends,

@@ -22,7 +22,7 @@ pub fn outward(
     values: &[f64],
     counts: &[usize],
 ) -> bool {
-    let code = abi::outward::wegrusamt_into_ccw(coords, corners, ends);
+    let code = abi::turning::wegrusamt_into_ccw(coords, corners, ends);
     if !answered_beside(q, code, values, counts) {
         return false;
     }
@@ -38,7 +38,7 @@ pub fn backward(
     values: &[f64],
     counts: &mut [usize],
 ) -> bool {
-    let code = abi::outward::wegrusamt_turn_faces(coords, corners, ends, counts);
+    let code = abi::turning::wegrusamt_turn_faces(coords, corners, ends, counts);
     if !answered_beside(q, code, values, counts) {
         return false;
     }

@@ -1,6 +1,6 @@
--- `abi::outward::wegrusamt_turn_faces` meets its contract: where `out` is too short only the refusal is asked, else the entry promises all.
+-- `abi::turning::wegrusamt_turn_faces` meets its contract: where `out` is too short only the refusal is asked, else the entry promises all.
 use Rattle.abi.proofs.Told.{turn_short}
-use Rattle.abi.proofs.outward.wegrusamt_turn_faces.Goals as goal
+use Rattle.abi.proofs.turning.wegrusamt_turn_faces.Goals as goal
 
 pub returns-then-out-lt1 : goal.returns-then-out-lt1
 returns-then-out-lt1 c =

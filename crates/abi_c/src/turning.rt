@@ -14,7 +14,7 @@ pub extern "C" fn wegrusamt_is_convex(
     ensures { told result [] out.new ≡ written (of_truth (is_convex_answer coords.now corners.now ends.now
         (shape_known shape))) [] out.old }
 {
-    abi::outward::wegrusamt_is_convex(coords, corners, ends, shape, out)
+    abi::turning::wegrusamt_is_convex(coords, corners, ends, shape, out)
 }
 
 #[unsafe(no_mangle)]
@@ -28,14 +28,14 @@ pub extern "C" fn wegrusamt_describe(
     ensures { told result [] out.new ≡ written (of_described (describe_answer coords.now corners.now ends.now
         (shape_known shape))) [] out.old }
 {
-    abi::outward::wegrusamt_describe(coords, corners, ends, shape, out)
+    abi::turning::wegrusamt_describe(coords, corners, ends, shape, out)
 }
 
 #[unsafe(no_mangle)]
 pub extern "C" fn wegrusamt_into_ccw(coords: &[f64], corners: &mut [u32], ends: &[u32]) -> u8
     ensures { (result, corners.new) ≡ done_told (into_ccw_answer coords.now corners.old ends.now) }
 {
-    abi::outward::wegrusamt_into_ccw(coords, corners, ends)
+    abi::turning::wegrusamt_into_ccw(coords, corners, ends)
 }
 
 #[unsafe(no_mangle)]
@@ -47,7 +47,7 @@ pub extern "C" fn wegrusamt_turn_faces(
 ) -> u8
     ensures { TurnFacesTold coords.now corners.old ends.now out.old result corners.new out.new }
 {
-    abi::outward::wegrusamt_turn_faces(coords, corners, ends, out)
+    abi::turning::wegrusamt_turn_faces(coords, corners, ends, out)
 }
 
 #[unsafe(no_mangle)]
@@ -62,7 +62,7 @@ pub extern "C" fn wegrusamt_plane_of_face(
     ensures { told result out.new area.new ≡ written (of_face_plane (plane_of_face_answer coords.now corners.now ends.now face))
         out.old area.old }
 {
-    abi::outward::wegrusamt_plane_of_face(coords, corners, ends, face, out, area)
+    abi::turning::wegrusamt_plane_of_face(coords, corners, ends, face, out, area)
 }
 
 #[unsafe(no_mangle)]
@@ -74,5 +74,5 @@ pub extern "C" fn wegrusamt_no_area_faces(
 ) -> u8
     ensures { (result, out.new) ≡ done_told (no_area_faces_answer coords.now corners.now ends.now out.old) }
 {
-    abi::outward::wegrusamt_no_area_faces(coords, corners, ends, out)
+    abi::turning::wegrusamt_no_area_faces(coords, corners, ends, out)
 }

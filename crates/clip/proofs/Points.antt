@@ -9,7 +9,7 @@ use lib.Ieee.{Float}
 use Rattle.places.specs.Loops.{count_of}
 use Rattle.flat.specs.Points.{Point}
 use Rattle.planes.specs.declared.Plane.{Plane}
-use Rattle.work_lists.specs.WorkLists.{Change, whole, gone, full, made, Outcome, nothing, noRoom, outline, left_by, run_of, clipped_of}
+use Rattle.work_lists.specs.WorkLists.{Change, whole, gone, full, made, Outcome, nothing, no_room, outline, left_by, run_of, clipped_of}
 use Rattle.clip_step.specs.ClipStep.{trimmed_by}
 use Rattle.clip_step.specs.Doubled.{without_doubled}
 use Rattle.clip.specs.Clip.{beyond, cut_change, plane_change, clip_face_of}
@@ -23,7 +23,7 @@ pub data MadePoints : Change → Type 0 where
 
 pub data LeftPoints : Outcome → Type 0 where
   left_nothing : LeftPoints nothing
-  left_no_room : LeftPoints noRoom
+  left_no_room : LeftPoints no_room
   left_some : {second : Bool} {ps : List Point} → 0 < length ps → LeftPoints (outline second ps)
 
 -- a test between two

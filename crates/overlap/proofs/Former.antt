@@ -37,9 +37,9 @@ former_second room m planes ps =
 unfoldable pub former_overlap : ℕ → List Point → List (List ℕ) → List Point → List (List ℕ) → Sum
 former_overlap room vs faces ws other_faces =
     let m = measures_of vs ws in
-    let ofFirst = map (λ face. former_first room m (former_planes ws other_faces) (corners_of vs face)) faces in
-    let ofSecond = map (λ face. former_second room m (former_planes vs faces) (corners_of ws face)) other_faces in
-    magnitude_of_sum (added_to m.reference zero64 (ofFirst ++ ofSecond))
+    let of_first = map (λ face. former_first room m (former_planes ws other_faces) (corners_of vs face)) faces in
+    let of_second = map (λ face. former_second room m (former_planes vs faces) (corners_of ws face)) other_faces in
+    magnitude_of_sum (added_to m.reference zero64 (of_first ++ of_second))
 
 -- the volume: 0 where the boxes missed each other
 unfoldable pub former_intersection : ℕ → List Point → List (List ℕ) → List Point → List (List ℕ) → Sum

@@ -75,8 +75,8 @@ module _ (first second : List Float) (vs : List Point) (faces : List (List ℕ))
   pub overlap_refused : s ≡ Sum.NoRoom → Sum.NoRoom ≡ overlap_of (room_of first second) vs faces ws other_faces
   unfolding overlap_of
   overlap_refused g =
-      let ofFirst = first_patches (room_of first second) m vs faces (in_fours (other_part false n both)) in
-      rw (← q, ← others_first j, added_append m.reference zero64 ofFirst, ← sum, g)
+      let of_first = first_patches (room_of first second) m vs faces (in_fours (other_part false n both)) in
+      rw (← q, ← others_first j, added_append m.reference zero64 of_first, ← sum, g)
 
   -- where it is v, t the sum that goes on from v over the second cell's faces, in lists of the same lengths, and r its magnitude
   pub overlap_is : (first' second' : List Float) {v : Float} {t r : Sum} → s ≡ Sum.Is v
@@ -85,12 +85,12 @@ module _ (first second : List Float) (vs : List Point) (faces : List (List ℕ))
       → r ≡ magnitude_of_sum t → r ≡ overlap_of (room_of first second) vs faces ws other_faces
   unfolding overlap_of
   overlap_is first' second' g a b h e =
-      let ofFirst = first_patches (room_of first second) m vs faces (in_fours (other_part false n both)) in
+      let of_first = first_patches (room_of first second) m vs faces (in_fours (other_part false n both)) in
       rw (
         ← q,
         ← others_first j,
         ← others_second j,
-        added_append m.reference zero64 ofFirst,
+        added_append m.reference zero64 of_first,
         ← sum,
         g,
         ← same_room first' second' first second a b,

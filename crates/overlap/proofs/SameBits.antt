@@ -16,7 +16,7 @@ use Rattle.planes.specs.declared.Plane.{Plane}
 use Rattle.planes.specs.Planes.{no_area, has_plane, newell_plane, has_no_area, plane_of}
 use Rattle.planes.proofs.NoArea.{nan_plane, no_area_nan, nan_same_side, same_side_nan, nan_opposite, opposite_nan}
 use Rattle.work_lists.specs.declared.Sum.{Sum}
-use Rattle.work_lists.specs.WorkLists.{Outcome, nothing, noRoom, outline}
+use Rattle.work_lists.specs.WorkLists.{Outcome, nothing, no_room, outline}
 use Rattle.clip.specs.Clip.{clip_face_of}
 use Rattle.overlap.specs.declared.Measures.{Measures}
 use Rattle.overlap.specs.Tolerances.{boxes_miss, measures_of}
@@ -93,7 +93,7 @@ same_added : (ref : Point) (v : Float) {os qs : List Outcome} → EachSame os qs
 unfolding added_to
 same_added ref v each_none s = refl
 same_added ref v (each_more (outcome_same {o = nothing}) h) s = same_added ref v h s
-same_added ref v (each_more (outcome_same {o = noRoom}) h) s = refl
+same_added ref v (each_more (outcome_same {o = no_room}) h) s = refl
 same_added ref v (each_more (outcome_same {o = outline second []}) h) s = same_added ref v h s
 same_added ref v (each_more (outcome_same {o = outline second (p ∷ ps)}) h) s =
     let c = contribution_of ref (p ∷ ps) in same_added ref (v +f c) h (sum_again v c (contribution_fits ref (p ∷ ps)) s)

@@ -18,7 +18,7 @@ use Rattle.flat.specs.Points.{Point, corners_of}
 use Rattle.planes.specs.declared.Plane.{Plane}
 use Rattle.planes.specs.Planes.{no_area, has_plane, newell_plane, has_no_area, plane_of, with_plane, planes_of, same_side}
 use Rattle.planes.proofs.NoArea.{nan_plane, no_area_nan, nan_distance, nan_same_side, same_side_nan}
-use Rattle.work_lists.specs.WorkLists.{Change, whole, gone, Outcome, nothing, noRoom, outline, left_by, run_of, clipped_of}
+use Rattle.work_lists.specs.WorkLists.{Change, whole, gone, Outcome, nothing, no_room, outline, left_by, run_of, clipped_of}
 use Rattle.clip.specs.Clip.{beyond, plane_change, clip_face_of}
 use Rattle.clip.proofs.Points.{MadePoints, made_whole, made_gone, made_full, made_some, plane_points}
 use Rattle.overlap.specs.Overlap.{other_planes}
@@ -95,7 +95,7 @@ module _ (room : ℕ) (eps : Float) where
   run_nothing [] = refl
   run_nothing (p ∷ l) = refl
 
-  run_no_room : (l : List Plane) → run_of (plane_change room eps) l noRoom ≡ noRoom
+  run_no_room : (l : List Plane) → run_of (plane_change room eps) l no_room ≡ no_room
   unfolding run_of
   run_no_room [] = refl
   run_no_room (p ∷ l) = refl
@@ -103,7 +103,7 @@ module _ (room : ℕ) (eps : Float) where
 -- where an outline is left, it has at least 3 points
 data Wide : Outcome → Type 0 where
   wide_nothing : Wide nothing
-  wide_no_room : Wide noRoom
+  wide_no_room : Wide no_room
   wide_outline : {second : Bool} {ps : List Point} → 3 ≤ length ps → Wide (outline second ps)
 
 wide_left : {c : Change} (second : Bool) (ps : List Point) → MadePoints c → 3 ≤ length ps → Wide (left_by c second ps)

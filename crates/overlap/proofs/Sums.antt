@@ -19,7 +19,7 @@ use Rattle.cell.proofs.Faces.{Step, faces_more, faces_none, rises_more}
 use Rattle.planes.specs.declared.Plane.{Plane}
 use Rattle.work_lists.specs.declared.Left.TheVariants.{Nothing, Outline, NoRoom}
 use Rattle.work_lists.specs.declared.Sum.{Sum}
-use Rattle.work_lists.specs.WorkLists.{Outcome, nothing, noRoom, outline}
+use Rattle.work_lists.specs.WorkLists.{Outcome, nothing, no_room, outline}
 use Rattle.work_lists.specs.Steps.{Ended}
 use Rattle.work_lists.proofs.Endings.{room_lacks}
 use Rattle.overlap.specs.declared.Measures.{Measures}
@@ -68,7 +68,7 @@ ready_at {c = c} p e sound f few s t =
 pub took_nothing : {o : Outcome} {a b : List Point} (ref : Point) (v : Float) → Ended o Nothing a b → Sum.Is v ≡ added_to ref v (o ∷ [])
 unfolding added_to
 took_nothing {o = nothing} ref v q = refl
-took_nothing {o = noRoom} ref v q = cc q.answer
+took_nothing {o = no_room} ref v q = cc q.answer
 took_nothing {o = outline s []} ref v q = refl
 took_nothing {o = outline s (p ∷ ps)} ref v q = cc q.answer
 
@@ -76,7 +76,7 @@ took_outline : {o : Outcome} {n : ℕ} {s : Bool} {a b : List Point} (ref : Poin
     → Sum.Is (v +f contribution_of ref (take n (cond s b a))) ≡ added_to ref v (o ∷ [])
 unfolding added_to
 took_outline {o = nothing} ref v q = cc q.answer
-took_outline {o = noRoom} ref v q = cc q.answer
+took_outline {o = no_room} ref v q = cc q.answer
 took_outline {o = outline t []} ref v q = cc q.answer
 took_outline {o = outline t (p ∷ ps)} {n} {s} ref v q =
     let size : n ≡ length (p ∷ ps) = cc q.answer in
@@ -116,7 +116,7 @@ pub added_append : (ref : Point) (v : Float) (xs ys : List Outcome)
 unfolding added_to
 added_append ref v [] ys = refl
 added_append ref v (nothing ∷ xs) ys = added_append ref v xs ys
-added_append ref v (noRoom ∷ xs) ys = refl
+added_append ref v (no_room ∷ xs) ys = refl
 added_append ref v (outline s [] ∷ xs) ys = added_append ref v xs ys
 added_append ref v (outline s (p ∷ ps) ∷ xs) ys = added_append ref (v +f contribution_of ref (p ∷ ps)) xs ys
 

@@ -8,7 +8,7 @@ use Rattle.flat.specs.Points.{Point, minus_of, corners_of, bounds_of}
 use Rattle.volume.specs.Volume.{triple_of}
 use Rattle.planes.specs.declared.Plane.{Plane}
 use Rattle.planes.specs.Planes.{PlaneOrNoArea, no_area, has_plane, plane_of, planes_of, no_area_count, same_side, coplanar_opposite}
-use Rattle.work_lists.specs.WorkLists.{Outcome, nothing, noRoom, outline}
+use Rattle.work_lists.specs.WorkLists.{Outcome, nothing, no_room, outline}
 use Rattle.clip.specs.Clip.{clip_face_of}
 use Rattle.work_lists.specs.declared.Sum.{Sum}
 use Rattle.overlap.specs.declared.Measures.{Measures}
@@ -83,7 +83,7 @@ second_patches room m ws faces planes = map (of_face (second_patch room m planes
 unfoldable pub added_to : Point → Float → List Outcome → Sum
 added_to ref v [] = Sum.Is v
 added_to ref v (nothing ∷ os) = added_to ref v os
-added_to ref v (noRoom ∷ os) = Sum.NoRoom
+added_to ref v (no_room ∷ os) = Sum.NoRoom
 added_to ref v (outline second [] ∷ os) = added_to ref v os
 added_to ref v (outline second (p ∷ ps) ∷ os) = added_to ref (v +f contribution_of ref (p ∷ ps)) os
 
@@ -96,9 +96,9 @@ magnitude_of_sum Sum.NoRoom = Sum.NoRoom
 unfoldable pub overlap_of : ℕ → List Point → List (List ℕ) → List Point → List (List ℕ) → Sum
 overlap_of room vs faces ws other_faces =
     let m = measures_of vs ws in
-    let ofFirst = first_patches room m vs faces (planes_of ws other_faces) in
-    let ofSecond = second_patches room m ws other_faces (planes_of vs faces) in
-    magnitude_of_sum (added_to m.reference zero64 (ofFirst ++ ofSecond))
+    let of_first = first_patches room m vs faces (planes_of ws other_faces) in
+    let of_second = second_patches room m ws other_faces (planes_of vs faces) in
+    magnitude_of_sum (added_to m.reference zero64 (of_first ++ of_second))
 
 -- the volume that two cells share: 0 where the boxes miss each other
 unfoldable pub intersection_of : ℕ → List Point → List (List ℕ) → List Point → List (List ℕ) → Sum

@@ -13,7 +13,7 @@ use Rattle.flat.specs.Points.{Point}
 use Rattle.flat.specs.Flat.{summed_area_of, signed_area_of}
 use Rattle.work_lists.specs.declared.Left.TheVariants.{Nothing, Outline}
 use Rattle.work_lists.specs.declared.Left.TheVariants as clipped
-use Rattle.work_lists.specs.WorkLists.{Outcome, nothing, noRoom, outline, outline_of}
+use Rattle.work_lists.specs.WorkLists.{Outcome, nothing, no_room, outline, outline_of}
 use Rattle.work_lists.specs.Steps.{Ended}
 use Rattle.work_lists.proofs.Endings.{reads_pairs, nothing_left, room_lacks, outline_left}
 use Rattle.places.specs.Loops.{fold_list}
@@ -27,10 +27,10 @@ unfolding of_bits div fold_list magnitude_of summed_area_of signed_area_of
 no_area_lem = refl
 
 -- the area of every outcome but that of no room
-area_is : (o : Outcome) → o ≢ noRoom → Is (magnitude_of (signed_area_of (outline_of o))) ≡ area_answer o
+area_is : (o : Outcome) → o ≢ no_room → Is (magnitude_of (signed_area_of (outline_of o))) ≡ area_answer o
 unfolding intersection_area_of
 area_is nothing h = refl
-area_is noRoom h = absurd (h refl)
+area_is no_room h = absurd (h refl)
 area_is (outline second ps) h = refl
 
 pub area_none : {o : Outcome} {a b : List Point} → Ended o Nothing a b → Is zero64 ≡ area_answer o

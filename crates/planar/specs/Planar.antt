@@ -4,7 +4,7 @@ use Rattle.places.specs.Ring.{sides}
 use Rattle.floats.specs.Pick.{magnitude_of}
 use Rattle.flat.specs.Points.{Point}
 use Rattle.flat.specs.Flat.{signed_area_of}
-use Rattle.work_lists.specs.WorkLists.{Change, gone, full, made, Outcome, nothing, noRoom, outline, clipped_of, outline_of}
+use Rattle.work_lists.specs.WorkLists.{Change, gone, full, made, Outcome, nothing, no_room, outline, clipped_of, outline_of}
 use Rattle.clip_step.specs.ClipStep.{trimmed_at}
 use Rattle.work_lists.specs.declared.Sum.{Sum}
 use Rattle.work_lists.specs.declared.Sum.TheVariants.{Is, NoRoom}
@@ -26,5 +26,5 @@ intersection_area_of left = magnitude_of (signed_area_of (outline_of left))
 -- the area, also of nothing; or that there is no room
 abbrev pub area_answer : Outcome → Sum
 area_answer nothing = Is (intersection_area_of nothing)
-area_answer noRoom = NoRoom
+area_answer no_room = NoRoom
 area_answer (outline second ps) = Is (intersection_area_of (outline second ps))

@@ -17,7 +17,7 @@ use Rattle.work_lists.specs.declared.Step.{Step}
 use Rattle.work_lists.specs.declared.Step.TheVariants.{Kept, Gone, Full, Made}
 use Rattle.work_lists.specs.declared.Left.{Left}
 use Rattle.work_lists.specs.declared.Left.TheVariants.{Nothing, Outline, NoRoom}
-use Rattle.work_lists.specs.WorkLists.{Change, whole, gone, full, made, Outcome, nothing, noRoom, outline, left_by, run_of}
+use Rattle.work_lists.specs.WorkLists.{Change, whole, gone, full, made, Outcome, nothing, no_room, outline, left_by, run_of}
 use Rattle.work_lists.specs.WorkLists.{clipped_of, shorter_of, answer_of}
 use Rattle.work_lists.specs.Steps.{Ended, Shows, shows_whole, shows_gone, shows_full, shows_made, Moved}
 
@@ -50,7 +50,7 @@ module _ {o : Outcome} {a b : List Point} where
   pub ended_nothing : o ≡ nothing → Ended o Nothing a b
   ended_nothing e = rw e (record { answer = refl; stands = refl })
 
-  pub ended_full : o ≡ noRoom → Ended o NoRoom a b
+  pub ended_full : o ≡ no_room → Ended o NoRoom a b
   ended_full e = rw e (record { answer = refl; stands = refl })
 
 -- an outline of points is their number, and which list they stand in
@@ -65,7 +65,7 @@ module _ {E : Type 0} (change : E → List Point → Change) where
   run_nothing [] = refl
   run_nothing (e ∷ es) = refl
 
-  run_full : (es : List E) → run_of change es noRoom ≡ noRoom
+  run_full : (es : List E) → run_of change es no_room ≡ no_room
   unfolding run_of
   run_full [] = refl
   run_full (e ∷ es) = refl

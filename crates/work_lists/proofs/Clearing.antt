@@ -16,7 +16,7 @@ use Rattle.flat.specs.Points.{Point}
 use Rattle.work_lists.specs.declared.Left.{Left}
 use Rattle.work_lists.proofs.Wiping.{wiped}
 use Rattle.work_lists.proofs.Endings.{Reads}
-use Rattle.work_lists.specs.WorkLists.{Outcome, nothing, noRoom, outline, answer_of, showing, list_after}
+use Rattle.work_lists.specs.WorkLists.{Outcome, nothing, no_room, outline, answer_of, showing, list_after}
 use Rattle.work_lists.specs.Steps.{shown_numbers, Ended, Settled}
 
 -- ---- the list that shows m numbers, and the other, which shows none
@@ -41,7 +41,7 @@ shows_least false m a b h = inl h.0
 -- ---- the points that an outcome shows in the list `which`
 abbrev shown_in : Outcome → Bool → List Point
 shown_in nothing which = []
-shown_in noRoom which = []
+shown_in no_room which = []
 shown_in (outline second ps) which = cond (beq second which) ps []
 
 -- a list after an outcome: those points, then +0
@@ -49,7 +49,7 @@ after_is : (o : Outcome) (which : Bool) (n : ℕ)
     → list_after o which n ≡ joined (shown_in o which) ++ replicate (n - length (joined (shown_in o which))) zero64
 unfolding joined
 after_is nothing which n = rw sub-zero
-after_is noRoom which n = rw sub-zero
+after_is no_room which n = rw sub-zero
 after_is (outline second ps) which n = go (beq second which)
   where
     go : (t : Bool) → showing t ps n ≡ joined (cond t ps []) ++ replicate (n - length (joined (cond t ps []))) zero64
@@ -59,7 +59,7 @@ after_is (outline second ps) which n = go (beq second which)
 -- the answer shows their numbers
 numbers_are : (o : Outcome) (size : ℕ) (which : Bool) → shown_numbers (answer_of o) size which ≡ length (shown_in o which) * size
 numbers_are nothing size which = omega arith
-numbers_are noRoom size which = omega arith
+numbers_are no_room size which = omega arith
 numbers_are (outline second []) size which = go (beq second which)
   where
     go : (t : Bool) → 0 ≡ length (cond {A = List Point} t [] []) * size
@@ -75,7 +75,7 @@ numbers_are (outline second (p ∷ ps)) size which = go (beq second which)
 stand_there : {o : Outcome} {r : Left} {a b : List Point} (which : Bool) → Ended o r a b
     → take (length (shown_in o which)) (cond which b a) ≡ shown_in o which
 stand_there {o = nothing} which q = refl
-stand_there {o = noRoom} which q = refl
+stand_there {o = no_room} which q = refl
 stand_there {o = outline true ps} true q = q.stands
 stand_there {o = outline true ps} false q = refl
 stand_there {o = outline false ps} true q = refl

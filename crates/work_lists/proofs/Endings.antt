@@ -11,7 +11,7 @@ use Rattle.places.specs.Stored.{in_threes, in_pairs, joined}
 use Rattle.places.proofs.Stored.{length_threes, length_pairs, threes_take, pairs_take}
 use Rattle.flat.specs.Points.{Point}
 use Rattle.work_lists.specs.declared.Left.TheVariants.{Nothing, Outline, NoRoom}
-use Rattle.work_lists.specs.WorkLists.{Outcome, nothing, noRoom, outline, outline_of}
+use Rattle.work_lists.specs.WorkLists.{Outcome, nothing, no_room, outline, outline_of}
 use Rattle.work_lists.specs.Steps.{Ended}
 
 -- ---- how points are stored: so many numbers each, and those of the first n points come first
@@ -49,22 +49,22 @@ reads_pairs = record { count = length_pairs; fits = λ n l h. omega (arith, leng
 
 -- ---- from an answer back to the outcome
 -- nothing is left, or an outline of no points
-pub nothing_left : {o : Outcome} {a b : List Point} → Ended o Nothing a b → (o ≢ noRoom) × (outline_of o ≡ [])
+pub nothing_left : {o : Outcome} {a b : List Point} → Ended o Nothing a b → (o ≢ no_room) × (outline_of o ≡ [])
 nothing_left {o = nothing} q = ((λ e. let z : ◌≡◌ {A = ℕ} 0 1 = cc in omega arith), refl)
-nothing_left {o = noRoom} q = let z : ◌≡◌ {A = ℕ} 0 1 = cc q.answer in absurd (omega arith)
+nothing_left {o = no_room} q = let z : ◌≡◌ {A = ℕ} 0 1 = cc q.answer in absurd (omega arith)
 nothing_left {o = outline s []} q = ((λ e. let z : ◌≡◌ {A = ℕ} 0 1 = cc in omega arith), refl)
 nothing_left {o = outline s (p ∷ ps)} q = let z : ◌≡◌ {A = ℕ} 0 1 = cc q.answer in absurd (omega arith)
 
-pub room_lacks : {o : Outcome} {a b : List Point} → Ended o NoRoom a b → o ≡ noRoom
+pub room_lacks : {o : Outcome} {a b : List Point} → Ended o NoRoom a b → o ≡ no_room
 room_lacks {o = nothing} q = let z : ◌≡◌ {A = ℕ} 0 1 = cc q.answer in absurd (omega arith)
-room_lacks {o = noRoom} q = refl
+room_lacks {o = no_room} q = refl
 room_lacks {o = outline s []} q = let z : ◌≡◌ {A = ℕ} 0 1 = cc q.answer in absurd (omega arith)
 room_lacks {o = outline s (p ∷ ps)} q = let z : ◌≡◌ {A = ℕ} 0 1 = cc q.answer in absurd (omega arith)
 
 outline_is : {o : Outcome} {n : ℕ} {second : Bool} {a b : List Point} → Ended o (Outline n second) a b
     → (o ≡ outline second (take n (cond second b a))) × (n ≤ length (cond second b a))
 outline_is {o = nothing} q = let z : ◌≡◌ {A = ℕ} 0 1 = cc q.answer in absurd (omega arith)
-outline_is {o = noRoom} q = let z : ◌≡◌ {A = ℕ} 0 1 = cc q.answer in absurd (omega arith)
+outline_is {o = no_room} q = let z : ◌≡◌ {A = ℕ} 0 1 = cc q.answer in absurd (omega arith)
 outline_is {o = outline s []} q = let z : ◌≡◌ {A = ℕ} 0 1 = cc q.answer in absurd (omega arith)
 outline_is {o = outline s (p ∷ ps)} {n} {second} {a} {b} q =
     let e : n ≡ length (p ∷ ps) = cc q.answer in

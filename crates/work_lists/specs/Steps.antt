@@ -4,7 +4,7 @@ use Rattle.std.specs.Bool.{beq}
 use Rattle.flat.specs.Points.{Point}
 use Rattle.work_lists.specs.declared.Step.{Step}
 use Rattle.work_lists.specs.declared.Step.TheVariants.{Kept, Gone, Full, Made}
-use Rattle.work_lists.specs.WorkLists.{Change, whole, gone, full, made, Outcome, nothing, noRoom, outline, outline_of, answer_of}
+use Rattle.work_lists.specs.WorkLists.{Change, whole, gone, full, made, Outcome, nothing, no_room, outline, outline_of, answer_of}
 use Rattle.work_lists.specs.WorkLists.{list_after}
 use Rattle.work_lists.specs.declared.Left.{Left}
 use Rattle.work_lists.specs.declared.Left.TheVariants.{Nothing, Outline, NoRoom}
@@ -40,7 +40,7 @@ pub record Filled {A : Type 0} (xs : List A) (m : ℕ) (before : List A) (r : �
 -- ---- where an outcome stands before the lists are cleared
 abbrev pub is_in_second : Outcome → Bool
 is_in_second nothing = false
-is_in_second noRoom = false
+is_in_second no_room = false
 is_in_second (outline second ps) = second
 
 -- r answers an outcome, and its points stand at the front of their list

@@ -42,7 +42,7 @@
  * numbers each is the most that may be lent.
  *
  * Stack. Nothing is allocated; a call works on the stack, at its largest inputs with at most 133,000 bytes in
- * turn_faces, 96,000 in triangle_places, 63,000 in volume, geometric_centroid and survey, 38,000 in triangles,
+ * turn_faces, 96,000 in triangle_places, 66,000 in volume, geometric_centroid and survey, 38,000 in triangles,
  * 26,000 in convex_intersection_volume, 12,000 in closed, 4,000 in check_cut, and 1,000 in every other. It is
  * measured (tests/stack), not proved.
  */

@@ -131,8 +131,8 @@ static size_t used(void (*call)(void)) {
 int main(void) {
     /* the most bytes are those that the header names */
     static const struct { const char *name; void (*call)(void); size_t most; } calls[] = {
-        {"volume", volume, 63000}, {"geometric_centroid", geometric_centroid, 63000}, {"survey", survey, 63000},
-        {"survey, one face", survey_of_one_face, 63000}, {"triangles", cut, 38000},
+        {"volume", volume, 66000}, {"geometric_centroid", geometric_centroid, 66000}, {"survey", survey, 66000},
+        {"survey, one face", survey_of_one_face, 66000}, {"triangles", cut, 38000},
         {"triangle_places", cut_by_place, 96000}, {"check_cut", check_cut, 4000}, {"closed", closed, 12000},
         {"turn_faces", turn_faces, 133000}, {"convex_intersection_volume", overlap, 26000},
         {"the same, a face of no area", overlap_of_thin, 26000}, {"the same, boxes that miss", overlap_of_none, 26000},

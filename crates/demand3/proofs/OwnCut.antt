@@ -111,10 +111,10 @@ module _ (k : ℕ) (r : List ℕ) (s : Single r) (l : k < length r) (h : 4 ≤ l
   across = omega (arith, bit_self (after 0 k r) (before 0 k r))
 
   -- what is left of the ring has the side from the corner before to the corner after once, and not its back
-  new-side :
+  new_side :
       let rest = sides (without k r) in
       (count (before 0 k r) (after 0 k r) rest ≡ 1) × (count (after 0 k r) (before 0 k r) rest ≡ 0)
-  new-side =
+  new_side =
       let a = before 0 k r in
       let c = after 0 k r in
       let d = ear_different in
@@ -149,7 +149,7 @@ module _ (k : ℕ) (r : List ℕ) (ts : List (List ℕ)) (s : Single r) (l : k <
       go zero q a b = rw (← b) (corner i).1
       go (suc zero) q a b = rw (← a) (corner j).0
       go (suc (suc zero)) q a b =
-          let new = new-side k r s l h in
+          let new = new_side k r s l h in
           rw (← a, ← b) (omega (arith, g.even (after 0 k r) (before 0 k r), g.once (before 0 k r) (after 0 k r)))
       go (suc (suc (suc m))) q a b = absurd (omega arith)
 

@@ -57,10 +57,10 @@ module _ {A : Type 0} (d : A) where
 
   -- ---- the steps from i on leave the places before i and those as near to the end, and mirror the places between
   module _ (n : ℕ) where
-    length-mirrored : (left i : ℕ) (l : List A) → length (mirror_from d n left i l) ≡ length l
+    length_mirrored : (left i : ℕ) (l : List A) → length (mirror_from d n left i l) ≡ length l
     unfolding fold_from
-    length-mirrored zero i l = refl
-    length-mirrored (suc left) i l = length-mirrored left (i + 1) (mirror d n i l) ∙ length_swapped i (n - 1 - i) l
+    length_mirrored zero i l = refl
+    length_mirrored (suc left) i l = length_mirrored left (i + 1) (mirror d n i l) ∙ length_swapped i (n - 1 - i) l
 
     before : (left i p : ℕ) (l : List A) → (i + left) * 2 ≤ n → p < i → get_or (mirror_from d n left i l) p d ≡ get_or l p d
     unfolding fold_from
@@ -108,13 +108,13 @@ module _ {A : Type 0} (d : A) where
   pub mirrored : (l : List A) → fold_from (mirror d (length l)) (length l / 2) 0 l ≡ reverse l
   mirrored l =
       let n = length l in
-      ext_get_or d (mirror_from d n (n / 2) 0 l) (reverse l) (length-mirrored n (n / 2) 0 l ∙ sym (length-reverse l)) at
+      ext_get_or d (mirror_from d n (n / 2) 0 l) (reverse l) (length_mirrored n (n / 2) 0 l ∙ sym (length-reverse l)) at
     where
       at : (p : ℕ) → let n = length l in
           p < length (mirror_from d n (n / 2) 0 l) → get_or (mirror_from d n (n / 2) 0 l) p d ≡ get_or (reverse l) p d
       at p h =
           let n = length l in
-          let g : p < n = omega (arith, length-mirrored n (n / 2) 0 l) in
+          let g : p < n = omega (arith, length_mirrored n (n / 2) 0 l) in
           between n (n / 2) 0 p l refl (omega arith) (omega arith) (omega arith) (omega arith) ∙ sym (reverse_at l p g)
 
   -- ---- the loop that turns a list round: its start and its step; its end is that of every such loop

@@ -11,8 +11,8 @@ use Rattle.cut.proofs.fill_points.Goals as goal
 pub loop-i-init : goal.loop-i-init
 unfolding points_of
 loop-i-init c =
-    let pointAt = point_of (vertices_of c.args.coords.now) c.args.axis in
-    record { long = c.requires.ps_len; folding = fold_start (fill_map 0 pointAt c.args.face.now _ c.requires.ps_len) }
+    let point_at = point_of (vertices_of c.args.coords.now) c.args.axis in
+    record { long = c.requires.ps_len; folding = fold_start (fill_map 0 point_at c.args.face.now _ c.requires.ps_len) }
 
 pub loop-i-preserved : goal.loop-i-preserved
 loop-i-preserved c = store_next c.loop-i.invariant (omega arith) (cc)

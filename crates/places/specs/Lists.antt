@@ -1,5 +1,5 @@
 -- Lists: what holds at each place, and a list without one of its elements.
-use Rattle.std.specs.Prelude.{ℕ, zero, suc, ◌-◌, ◌<◌, List, [], ◌∷◌, length, get_or}
+use Rattle.std.specs.Prelude.{ℕ, zero, suc, ◌<◌, List, [], ◌∷◌, length, get_or}
 
 -- P holds of the element at each place
 pub record Each {A : Type 0} (d : A) (P : A → Type 0) (l : List A) : Type 0 where

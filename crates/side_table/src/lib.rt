@@ -25,13 +25,9 @@ pub fn number_all(number: &mut [u16], corners: &[u32]) -> usize
     ensures { Numbering number.new result × Each 0 (Known number.new result) corners.now
         × Follows number.new result (mentioned corners.now) }
 {
-    let n = corners.len();
     let mut k = 0;
-    let mut i = 0;
-    while i < n {
-        let x = places::corner(corners, i);
-        k = number_vertex(number, k, x);
-        i += 1;
+    for &x in corners {
+        k = number_vertex(number, k, x as usize);
     }
     k
 }

@@ -88,14 +88,12 @@ fn put_face(table: &mut [u16], number: &[u16], k: usize, face: &[u32], f: usize)
         (λ i j. marks_in i j f (sides face.now)) table.new result }
 {
     let n = face.len();
-    let mut i = 0;
-    while i < n {
+    for i in 0..n {
         let a = places::corner(face, i);
         let b = places::corner(face, places::next(i, n));
         if !put_side(table, number, k, a, b, f) {
             return false;
         }
-        i += 1;
     }
     true
 }
@@ -107,16 +105,13 @@ fn put_faces(table: &mut [u16], number: &[u16], k: usize, corners: &[u32], ends:
     ensures { Left (Known number.now k) (entry_of number.now k) table.old
         (λ i j. marks_from i j 0 (faces_of corners.now ends.now)) table.new result }
 {
-    let n = ends.len();
     let mut start = 0;
-    let mut j = 0;
-    while j < n {
-        let end = places::corner(ends, j);
+    for (j, &end) in ends.iter().enumerate() {
+        let end = end as usize;
         if !put_face(table, number, k, cell::face(corners, start, end), j) {
             return false;
         }
         start = end;
-        j += 1;
     }
     true
 }
@@ -162,14 +157,12 @@ fn lonely_face(table: &[u16], number: &[u16], k: usize, face: &[u32]) -> bool
     ensures { result ≡ lonely_face (entry_of number.now k) table.now face.now }
 {
     let n = face.len();
-    let mut i = 0;
-    while i < n {
+    for i in 0..n {
         let a = places::corner(face, i);
         let b = places::corner(face, places::next(i, n));
         if lonely_side(table, number, k, a, b) {
             return true;
         }
-        i += 1;
     }
     false
 }
@@ -181,16 +174,13 @@ fn lonely_faces(table: &[u16], number: &[u16], k: usize, corners: &[u32], ends: 
     ensures { result ≡ lonely_faces (entry_of number.now k) table.now
         (faces_of corners.now ends.now) }
 {
-    let n = ends.len();
     let mut start = 0;
-    let mut j = 0;
-    while j < n {
-        let end = places::corner(ends, j);
+    for &end in ends {
+        let end = end as usize;
         if lonely_face(table, number, k, cell::face(corners, start, end)) {
             return true;
         }
         start = end;
-        j += 1;
     }
     false
 }
@@ -201,15 +191,12 @@ fn doubled_face(stamp: &mut [u16], face: &[u32], own: u16) -> bool
     requires stamp_len { (length stamp.old ≡ most_vertices) × Fresh own stamp.old }
     ensures { (result ≡ doubled face.now) × Fresh (own + 1) stamp.new }
 {
-    let n = face.len();
-    let mut i = 0;
-    while i < n {
-        let x = places::corner(face, i);
+    for &x in face {
+        let x = x as usize;
         if stamp[x] == own {
             return true;
         }
         stamp[x] = own;
-        i += 1;
     }
     false
 }
@@ -221,16 +208,13 @@ fn doubled_faces(stamp: &mut [u16], corners: &[u32], ends: &[u32]) -> bool
     requires stamp_len { (length stamp.old ≡ most_vertices) × Blank stamp.old }
     ensures { result ≡ any_of doubled (faces_of corners.now ends.now) }
 {
-    let n = ends.len();
     let mut start = 0;
-    let mut j = 0;
-    while j < n {
-        let end = places::corner(ends, j);
+    for (j, &end) in ends.iter().enumerate() {
+        let end = end as usize;
         if doubled_face(stamp, cell::face(corners, start, end), j as u16 + 1) {
             return true;
         }
         start = end;
-        j += 1;
     }
     false
 }

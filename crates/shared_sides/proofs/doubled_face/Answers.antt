@@ -3,24 +3,25 @@
 use native.Mathlib.Omega.{arith}
 use borrow.Author.Rules.{rules}
 use Prim.Native.Nat.{◌<◌}
+use lib.ListN.{get_or}
 use mathlib.Core.Path.{refl}
 use Rattle.side_table.proofs.Corners.{each_at}
 use Rattle.shared_sides.proofs.Stamps.{stamp_start, stamp_yes, stamp_no, stamp_end}
 use Rattle.shared_sides.proofs.doubled_face.Goals as goal
 
-pub loop-i-init : goal.loop-i-init
-loop-i-init c =
+pub loop-x-init : goal.loop-x-init
+loop-x-init c =
     (refl, stamp_start _ c.requires.stamp_len.1)
 
 pub returns-then-stamp-x : goal.returns-then-stamp-x
 returns-then-stamp-x c =
-    (stamp_yes c.loop-i.invariant.1 (omega arith) c.corner-x.ensures.0 c.if-stamp-x.true, c.loop-i.invariant.1.fresh)
+    (stamp_yes c.loop-x.invariant.1 (omega arith) refl c.if-stamp-x.true, c.loop-x.invariant.1.fresh)
 
-pub loop-i-preserved : goal.loop-i-preserved
-loop-i-preserved c =
-    let below : c.corner-x.result < 256 = each_at _ c.requires.each (omega arith) c.corner-x.ensures.0 in
-    (search rules, stamp_no c.loop-i.invariant.1 (omega arith) c.corner-x.ensures.0 (omega arith) c.if-stamp-x.false)
+pub loop-x-preserved : goal.loop-x-preserved
+loop-x-preserved c =
+    let below : get_or c.args.face.now c.loop-x.x-index 0 < 256 = each_at _ c.requires.each (omega arith) refl in
+    (search rules, stamp_no c.loop-x.invariant.1 (omega arith) refl (omega arith) c.if-stamp-x.false)
 
 pub returns : goal.returns
 returns c =
-    (stamp_end c.loop-i.invariant.1 (omega arith), c.loop-i.invariant.1.fresh)
+    (stamp_end c.loop-x.invariant.1 (omega arith), c.loop-x.invariant.1.fresh)

@@ -12,16 +12,16 @@ loop-j-init c =
 
 pub face-requires : goal.face-requires
 face-requires c =
-    let step = faces_step c.loop-j.invariant.2 (omega arith) c.corner-end.ensures.0 in
+    let step = faces_step c.loop-j.invariant.2 (omega arith) refl in
     (step.from, step.upto)
 
 pub returns-then-doubled_face : goal.returns-then-doubled_face
 returns-then-doubled_face c =
-    faces_yes c.loop-j.invariant.2 (omega arith) c.corner-end.ensures.0 (cc)
+    faces_yes c.loop-j.invariant.2 (omega arith) refl (cc)
 
 pub loop-j-preserved : goal.loop-j-preserved
 loop-j-preserved c =
-    (omega arith, c.doubled_face.ensures.1, faces_no c.loop-j.invariant.2 (omega arith) c.corner-end.ensures.0 (cc))
+    (omega arith, c.doubled_face.ensures.1, faces_no c.loop-j.invariant.2 (omega arith) refl (cc))
 
 pub returns : goal.returns
 returns c = faces_end c.loop-j.invariant.2 (omega arith)

@@ -1,4 +1,4 @@
-use Prim.Native.Nat.{◌+◌, ◌-◌}
+use Prim.Native.Nat.{◌+◌}
 use lib.ListN.{length}
 use mathlib.Core.Path.{◌≡◌}
 use Rattle.places.specs.Steps.{Fresh}
@@ -12,6 +12,3 @@ abbrev pub invariant-loop-j : goal.invariant-loop-j
 invariant-loop-j l =
     (length l.stamp ≡ length l.initial.stamp) × Fresh (l.j + 1) l.stamp ×
     FaceAsking doubled l.corners l.ends (any_of doubled (faces_of l.corners l.ends)) l.start l.j
-
-abbrev pub decreases-loop-j : goal.decreases-loop-j
-decreases-loop-j l = l.n - l.j

@@ -1,4 +1,3 @@
-use Prim.Native.Nat.{◌-◌}
 use Rattle.places.specs.Ring.{sides}
 use Rattle.places.proofs.Loops.{Asking}
 use Rattle.shared_sides.specs.Steps.{lonely, lonely_face}
@@ -8,6 +7,3 @@ use Rattle.shared_sides.proofs.lonely_face.Given as goal
 abbrev pub invariant-loop-i : goal.invariant-loop-i
 invariant-loop-i l =
     Asking (lonely (entry_of l.number l.k) l.table) (sides l.face) (lonely_face (entry_of l.number l.k) l.table l.face) l.i
-
-abbrev pub decreases-loop-i : goal.decreases-loop-i
-decreases-loop-i l = l.n - l.i

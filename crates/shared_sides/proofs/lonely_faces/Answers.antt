@@ -5,23 +5,23 @@ use Rattle.cell.proofs.Faces.{faces_start, faces_step, faces_yes, faces_no, face
 use Rattle.shared_sides.specs.Steps.{lonely_faces}
 use Rattle.shared_sides.proofs.lonely_faces.Goals as goal
 
-pub loop-j-init : goal.loop-j-init
+pub loop-end-init : goal.loop-end-init
 unfolding lonely_faces
-loop-j-init c =
+loop-end-init c =
     faces_start c.requires.numbered.ordered refl
 
 pub face-requires : goal.face-requires
 face-requires c =
-    let step = faces_step c.loop-j.invariant (omega arith) c.corner-end.ensures.0 in
+    let step = faces_step c.loop-end.invariant (omega arith) refl in
     (step.from, step.upto)
 
 pub returns-then-lonely_face : goal.returns-then-lonely_face
 returns-then-lonely_face c =
-    faces_yes c.loop-j.invariant (omega arith) c.corner-end.ensures.0 (cc)
+    faces_yes c.loop-end.invariant (omega arith) refl (cc)
 
-pub loop-j-preserved : goal.loop-j-preserved
-loop-j-preserved c =
-    faces_no c.loop-j.invariant (omega arith) c.corner-end.ensures.0 (cc)
+pub loop-end-preserved : goal.loop-end-preserved
+loop-end-preserved c =
+    faces_no c.loop-end.invariant (omega arith) refl (cc)
 
 pub returns : goal.returns
-returns c = faces_end c.loop-j.invariant (omega arith)
+returns c = faces_end c.loop-end.invariant (omega arith)

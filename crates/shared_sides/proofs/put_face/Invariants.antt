@@ -1,4 +1,4 @@
-use Prim.Native.Nat.{◌-◌, ◌≤◌}
+use Prim.Native.Nat.{◌≤◌}
 use lib.ListN.{length, drop}
 use mathlib.Core.Path.{◌≡◌}
 use Rattle.places.specs.Ring.{sides}
@@ -12,6 +12,3 @@ invariant-loop-i l =
     (length l.table ≡ length l.initial.table) × (l.i ≤ l.n) ×
     Putting (Known l.number l.k) (entry_of l.number l.k) l.initial.table (λ a b. marks_in a b l.f (sides l.face))
     (λ a b. marks_in a b l.f (drop l.i (sides l.face))) l.table
-
-abbrev pub decreases-loop-i : goal.decreases-loop-i
-decreases-loop-i l = l.n - l.i

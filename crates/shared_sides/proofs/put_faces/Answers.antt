@@ -15,11 +15,11 @@ loop-j-init c =
 
 pub face-requires : goal.face-requires
 face-requires c =
-    let step = rises_more c.loop-j.start c.args.ends.now (length c.args.corners.now) c.loop-j.j c.corner-end.result (omega arith)
-    c.corner-end.ensures.0 c.loop-j.invariant.2 in
+    let step = rises_more c.loop-j.start c.args.ends.now (length c.args.corners.now) c.loop-j.j _ (omega arith)
+    refl c.loop-j.invariant.2 in
     (step.from, step.upto)
 
 pub returns-then-not-put_face : goal.returns-then-not-put_face
 returns-then-not-put_face c =
     put_full c.loop-j.invariant.3 c.put_face.ensures _ c.if-not-put_face.true
-    (from_more c.loop-j.start c.args.corners.now c.args.ends.now c.loop-j.j (omega arith) c.corner-end.ensures.0 c.face.ensures)
+    (from_more c.loop-j.start c.args.corners.now c.args.ends.now c.loop-j.j (omega arith) refl c.face.ensures)

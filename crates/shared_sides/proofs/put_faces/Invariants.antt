@@ -1,4 +1,4 @@
-use Prim.Native.Nat.{◌-◌, ◌≤◌}
+use Prim.Native.Nat.{◌≤◌}
 use lib.Dec.{T}
 use lib.ListN.{length, drop}
 use mathlib.Core.Path.{◌≡◌}
@@ -10,9 +10,6 @@ use Rattle.shared_sides.proofs.put_faces.Given as goal
 
 abbrev pub invariant-loop-j : goal.invariant-loop-j
 invariant-loop-j l =
-    (length l.table ≡ length l.initial.table) × (l.j ≤ l.n) × T (rises l.start (drop l.j l.ends) (length l.corners)) ×
+    (length l.table ≡ length l.initial.table) × (l.j ≤ length l.ends) × T (rises l.start (drop l.j l.ends) (length l.corners)) ×
     Putting (Known l.number l.k) (entry_of l.number l.k) l.initial.table (λ a b. marks_from a b 0 (faces_of l.corners l.ends))
     (λ a b. marks_from a b l.j (faces_from l.start l.corners (drop l.j l.ends))) l.table
-
-abbrev pub decreases-loop-j : goal.decreases-loop-j
-decreases-loop-j l = l.n - l.j

@@ -46,34 +46,18 @@ fn place_before(corners: &[u32], s: usize) -> usize
 }
 
 // Whether two of three places are the same.
-fn two_same(a: usize, b: usize, c: usize) -> bool
+#[tactic(auto, using(crate::proofs::Same::doubled_three))]
+fn two_same(a: u32, b: u32, c: u32) -> bool
     ensures { result ≡ doubled (a ∷ b ∷ c ∷ []) }
 {
-    if a == b {
-        return true;
-    }
-    if a == c {
-        return true;
-    }
-    b == c
+    a == b || a == c || b == c
 }
 
 // Whether any triangle has a place twice.
 fn any_same(corners: &[u32]) -> bool
     ensures { result ≡ any_of not_different (in_threes corners.now) }
 {
-    let m = corners.len() / 3;
-    let mut t = 0;
-    while t < m {
-        let a = places::corner(corners, t * 3);
-        let b = places::corner(corners, t * 3 + 1);
-        let c = places::corner(corners, t * 3 + 2);
-        if two_same(a, b, c) {
-            return true;
-        }
-        t += 1;
-    }
-    false
+    corners.chunks_exact(3).any(|t| two_same(t[0], t[1], t[2]))
 }
 
 // Each corner becomes the first of the chain of its place.
@@ -82,13 +66,10 @@ fn link(head: &mut [u16], next: &mut [u16], corners: &[u32])
     requires blank { Blank head.old × Blank next.old }
     ensures { Backward next.new corners.now × Lists head.new next.new corners.now (length corners.now) }
 {
-    let m = corners.len();
-    let mut s = 0;
-    while s < m {
-        let a = places::corner(corners, s);
+    for (s, &place) in corners.iter().enumerate() {
+        let a = place as usize;
         next[s] = head[a];
         head[a] = (s + 1) as u16;
-        s += 1;
     }
 }
 
@@ -160,12 +141,10 @@ fn paired(stamp: &mut [u16], head: &[u16], next: &[u16], corners: &[u32], n: usi
     requires stamp_len { (length stamp.old ≡ n) × Blank stamp.old }
     ensures { (result ≡ true) ↔ Paired n (in_threes corners.now) }
 {
-    let mut a = 0;
-    while a < n {
-        if !paired_at(stamp, next, corners, places::read(head, a), a, n) {
+    for (a, &first) in head.iter().enumerate() {
+        if !paired_at(stamp, next, corners, first as usize, a, n) {
             return false;
         }
-        a += 1;
     }
     true
 }
@@ -188,38 +167,24 @@ fn paired_in(
     paired(stamp, head, next, corners, n)
 }
 
-// Whether each side occurs once each way, with lists of its own: a face of n corners has n - 2 triangles, of three corners each. One
-// function a size: a small face does not clear the lists of a large one.
-fn paired_16(corners: &[u32], n: usize) -> bool
-    requires { CheckedCorners n corners.now × (n ≤ 16) × (length corners.now / 3 + 2 ≡ n) }
-    ensures { (result ≡ true) ↔ Paired n (in_threes corners.now) }
-{
-    let m = corners.len();
-    let mut head = [0u16; 16];
-    let mut stamp = [0u16; 16];
-    let mut next = [0u16; 3 * 14];
-    paired_in(&mut head[..n], &mut stamp[..n], &mut next[..m], corners, n)
-}
+// The most corners of the triangles of a face of 16 corners, of 64, and of as many as are checked: a face of n corners has n - 2 triangles.
+const CORNERS_OF_16: usize = 3 * 14;
 
-fn paired_64(corners: &[u32], n: usize) -> bool
-    requires { CheckedCorners n corners.now × (n ≤ 64) × (length corners.now / 3 + 2 ≡ n) }
-    ensures { (result ≡ true) ↔ Paired n (in_threes corners.now) }
-{
-    let m = corners.len();
-    let mut head = [0u16; 64];
-    let mut stamp = [0u16; 64];
-    let mut next = [0u16; 3 * 62];
-    paired_in(&mut head[..n], &mut stamp[..n], &mut next[..m], corners, n)
-}
+const CORNERS_OF_64: usize = 3 * 62;
 
-fn paired_256(corners: &[u32], n: usize) -> bool
-    requires { CheckedCorners n corners.now × (n ≤ most_checked_corners) × (length corners.now / 3 + 2 ≡ n) }
+const MOST_TRIANGLE_CORNERS: usize = 3 * places::limits::MOST_CHECKED_TRIANGLES;
+
+// Whether each side occurs once each way, with lists of its own, which have room for N corners of the face and M of its triangles: a small
+// face does not clear the lists of a large one.
+fn paired_within<const N: usize, const M: usize>(corners: &[u32], n: usize) -> bool
+    requires checked_corners { CheckedCorners n corners.now }
+    requires room { (n ≤ N) × (N ≤ most_checked_corners) × (length corners.now ≤ M) × (M ≤ 3 * most_checked_triangles) }
     ensures { (result ≡ true) ↔ Paired n (in_threes corners.now) }
 {
     let m = corners.len();
-    let mut head = [0u16; places::limits::MOST_CHECKED_CORNERS];
-    let mut stamp = [0u16; places::limits::MOST_CHECKED_CORNERS];
-    let mut next = [0u16; 3 * places::limits::MOST_CHECKED_TRIANGLES];
+    let mut head = [0u16; N];
+    let mut stamp = [0u16; N];
+    let mut next = [0u16; M];
     paired_in(&mut head[..n], &mut stamp[..n], &mut next[..m], corners, n)
 }
 
@@ -235,10 +200,10 @@ pub fn is_cut(n: usize, corners: &[u32]) -> bool
         return false;
     }
     if n <= 16 {
-        return paired_16(corners, n);
+        return paired_within::<16, CORNERS_OF_16>(corners, n);
     }
     if n <= 64 {
-        return paired_64(corners, n);
+        return paired_within::<64, CORNERS_OF_64>(corners, n);
     }
-    paired_256(corners, n)
+    paired_within::<{ places::limits::MOST_CHECKED_CORNERS }, MOST_TRIANGLE_CORNERS>(corners, n)
 }

@@ -36,12 +36,12 @@ module _ (c : Else-any_same) where
 
 pub returns-then-n-le16 : goal.returns-then-n-le16
 returns-then-n-le16 c =
-    by_sides (goal.at.returns-then-n-le16 c).Else-any_same c.paired_16.ensures
+    by_sides (goal.at.returns-then-n-le16 c).Else-any_same c.paired_within.ensures
 
 pub returns-then-n-le64 : goal.returns-then-n-le64
 returns-then-n-le64 c =
-    by_sides (goal.at.returns-then-n-le64 c).Else-any_same c.paired_64.ensures
+    by_sides (goal.at.returns-then-n-le64 c).Else-any_same c.paired_within-then-n-le64.ensures
 
 pub returns : goal.returns
 returns c =
-    by_sides (goal.at.returns c).Else-any_same c.paired_256.ensures
+    by_sides (goal.at.returns c).Else-any_same c.paired_within-2.ensures

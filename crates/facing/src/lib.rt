@@ -99,13 +99,11 @@ fn ask(
     let w = code[f];
     let n = face.len();
     let mut tail = at.tail;
-    let mut i = 0;
-    while i < n {
+    for i in 0..n {
         let a = places::corner(face, i);
         let b = places::corner(face, places::next(i, n));
         let m = neighbour(table, number, k, a, b, f);
         tail = meet(code, list, tail, m, runs_up(a, b, w));
-        i += 1;
     }
     Reached {
         low,
@@ -121,14 +119,12 @@ fn next_unreached(code: &[u8], from: usize) -> usize
         × (result < length code.now → get_or code.now result 0 ≡ 0) × (result ≤ length code.now) }
 {
     let n = code.len();
-    let mut f = from;
-    while f < n {
+    for f in from..n {
         if code[f] == 0 {
             return f;
         }
-        f += 1;
     }
-    f
+    n
 }
 
 // Where all faces in the list have asked, the lowest that is not reached keeps its direction and comes into the list.
@@ -187,13 +183,12 @@ fn reach_over(
     requires blank { Blank code.old × (length code.old ≡ length ends.now) × (length list.old ≡ length ends.now) }
     ensures { Whole (faces_of corners.now ends.now) code.new }
 {
-    let n = ends.len();
     let mut at = Reached {
         low: 0,
         head: 0,
         tail: 0,
     };
-    while at.head < n {
+    while at.head < ends.len() {
         at = step(table, number, k, corners, ends, code, list, at);
     }
 }
@@ -249,14 +244,12 @@ fn clash_face(
 {
     let face = cell::face_by_number(corners, ends, f);
     let n = face.len();
-    let mut i = 0;
-    while i < n {
+    for i in 0..n {
         let a = places::corner(face, i);
         let b = places::corner(face, places::next(i, n));
         if clash_side(table, number, k, code, a, b) {
             return true;
         }
-        i += 1;
     }
     false
 }
@@ -275,13 +268,10 @@ fn clash_faces(
     ensures { result ≡ clash_faces (entry_of number.now k) table.now code.now
         (faces_of corners.now ends.now) }
 {
-    let n = ends.len();
-    let mut f = 0;
-    while f < n {
+    for f in 0..ends.len() {
         if clash_face(table, number, k, code, corners, ends, f) {
             return true;
         }
-        f += 1;
     }
     false
 }
@@ -307,16 +297,12 @@ pub fn reverse_faces(corners: &mut [u32], ends: &[u32], code: &[u8]) -> usize
         (faces_of corners.old ends.now)) }
     ensures count { result ≡ how_many (code_choice code.now) (length ends.now) }
 {
-    let n = ends.len();
     let mut count = 0;
     let mut start = 0;
-    let mut f = 0;
-    while f < n {
-        let end = places::corner(ends, f);
-        let w = code[f];
-        count += reverse_by_code(&mut corners[start..end], w);
+    for (f, &end) in ends.iter().enumerate() {
+        let end = end as usize;
+        count += reverse_by_code(&mut corners[start..end], code[f]);
         start = end;
-        f += 1;
     }
     count
 }
@@ -345,49 +331,20 @@ fn choose_over(
     0
 }
 
-// The same with a table of its own: what is cleared is not much more than what the vertices that occur need.
-fn choose_16(number: &[u16], k: usize, corners: &[u32], ends: &[u32], code: &mut [u8]) -> u8
+// The same with a table of its own, of SIDE rows and columns: what is cleared is not much more than what the vertices that occur need.
+fn choose_in<const SIDE: usize, const ENTRIES: usize>(
+    number: &[u16],
+    k: usize,
+    corners: &[u32],
+    ends: &[u32],
+    code: &mut [u8],
+) -> u8
     requires numbered { Numbered number.now k corners.now ends.now × (length ends.now ≤ most_faces) }
-    requires k_bound { (k ≤ 16) × Blank code.old × (length code.old ≡ length ends.now) }
+    requires room { (SIDE * SIDE ≡ ENTRIES) × (ENTRIES ≤ most_vertices * most_vertices) }
+    requires k_in_bounds { (k ≤ SIDE) × Blank code.old × (length code.old ≡ length ends.now) }
     ensures { Chosen (faces_of corners.now ends.now) code.new result }
 {
-    let mut table = [0u16; 256];
-    choose_over(&mut table, number, k, corners, ends, code)
-}
-
-fn choose_32(number: &[u16], k: usize, corners: &[u32], ends: &[u32], code: &mut [u8]) -> u8
-    requires numbered { Numbered number.now k corners.now ends.now × (length ends.now ≤ most_faces) }
-    requires k_bound { (k ≤ 32) × Blank code.old × (length code.old ≡ length ends.now) }
-    ensures { Chosen (faces_of corners.now ends.now) code.new result }
-{
-    let mut table = [0u16; 1024];
-    choose_over(&mut table, number, k, corners, ends, code)
-}
-
-fn choose_64(number: &[u16], k: usize, corners: &[u32], ends: &[u32], code: &mut [u8]) -> u8
-    requires numbered { Numbered number.now k corners.now ends.now × (length ends.now ≤ most_faces) }
-    requires k_bound { (k ≤ 64) × Blank code.old × (length code.old ≡ length ends.now) }
-    ensures { Chosen (faces_of corners.now ends.now) code.new result }
-{
-    let mut table = [0u16; 4096];
-    choose_over(&mut table, number, k, corners, ends, code)
-}
-
-fn choose_128(number: &[u16], k: usize, corners: &[u32], ends: &[u32], code: &mut [u8]) -> u8
-    requires numbered { Numbered number.now k corners.now ends.now × (length ends.now ≤ most_faces) }
-    requires k_bound { (k ≤ 128) × Blank code.old × (length code.old ≡ length ends.now) }
-    ensures { Chosen (faces_of corners.now ends.now) code.new result }
-{
-    let mut table = [0u16; 16384];
-    choose_over(&mut table, number, k, corners, ends, code)
-}
-
-fn choose_256(number: &[u16], k: usize, corners: &[u32], ends: &[u32], code: &mut [u8]) -> u8
-    requires numbered { Numbered number.now k corners.now ends.now × (length ends.now ≤ most_faces) }
-    requires k_le_most_vertices { (k ≤ most_vertices) × Blank code.old × (length code.old ≡ length ends.now) }
-    ensures { Chosen (faces_of corners.now ends.now) code.new result }
-{
-    let mut table = [0u16; 65536];
+    let mut table = [0u16; ENTRIES];
     choose_over(&mut table, number, k, corners, ends, code)
 }
 
@@ -402,19 +359,13 @@ pub fn choose(corners: &[u32], ends: &[u32], v: usize, code: &mut [u8]) -> u8
 {
     let mut number = [256u16; places::limits::MOST_VERTICES];
     let k = side_table::number_all(&mut number, corners);
-    if k <= 16 {
-        return choose_16(&number, k, corners, ends, code);
+    match k {
+        ..=16 => choose_in::<16, 256>(&number, k, corners, ends, code),
+        ..=32 => choose_in::<32, 1024>(&number, k, corners, ends, code),
+        ..=64 => choose_in::<64, 4096>(&number, k, corners, ends, code),
+        ..=128 => choose_in::<128, 16384>(&number, k, corners, ends, code),
+        _ => choose_in::<256, 65536>(&number, k, corners, ends, code),
     }
-    if k <= 32 {
-        return choose_32(&number, k, corners, ends, code);
-    }
-    if k <= 64 {
-        return choose_64(&number, k, corners, ends, code);
-    }
-    if k <= 128 {
-        return choose_128(&number, k, corners, ends, code);
-    }
-    choose_256(&number, k, corners, ends, code)
 }
 
 // Only why: for a caller that reverses nothing.

@@ -1,5 +1,5 @@
 use mathlib.Core.Path.{◌≡◌}
-use Prim.Native.Nat.{◌-◌, ◌≤◌}
+use Prim.Native.Nat.{◌≤◌}
 use lib.ListN.{length}
 use Rattle.cell.specs.Faces.{faces_of}
 use Rattle.facing.proofs.Rounds.{Round}
@@ -9,6 +9,3 @@ abbrev pub invariant-loop-i : goal.invariant-loop-i
 invariant-loop-i l =
     (l.i ≤ l.n) × (length l.code ≡ length l.initial.code) × (length l.list ≡ length l.initial.list) ×
     Round (faces_of l.corners l.ends) l.code l.list l.low l.head l.tail l.f l.w l.i
-
-abbrev pub decreases-loop-i : goal.decreases-loop-i
-decreases-loop-i l = l.n - l.i

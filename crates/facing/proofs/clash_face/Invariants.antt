@@ -1,4 +1,3 @@
-use Prim.Native.Nat.{◌-◌}
 use mathlib.Core.List.{[]}
 use lib.ListN.{get_or}
 use Rattle.places.specs.Ring.{sides}
@@ -12,6 +11,3 @@ abbrev pub invariant-loop-i : goal.invariant-loop-i
 invariant-loop-i l =
     Asking (clash (entry_of l.number l.k) l.table l.code) (sides (get_or (faces_of l.corners l.ends) l.f []))
     (clash_face (entry_of l.number l.k) l.table l.code (get_or (faces_of l.corners l.ends) l.f [])) l.i
-
-abbrev pub decreases-loop-i : goal.decreases-loop-i
-decreases-loop-i l = l.n - l.i

@@ -1,4 +1,3 @@
-use Prim.Native.Nat.{◌-◌}
 use Rattle.places.proofs.Loops.{Asking}
 use Rattle.cell.specs.Faces.{faces_of}
 use Rattle.side_table.specs.Numbers.{entry_of}
@@ -9,6 +8,3 @@ abbrev pub invariant-loop-f : goal.invariant-loop-f
 invariant-loop-f l =
     Asking (clash_face (entry_of l.number l.k) l.table l.code) (faces_of l.corners l.ends)
     (clash_faces (entry_of l.number l.k) l.table l.code (faces_of l.corners l.ends)) l.f
-
-abbrev pub decreases-loop-f : goal.decreases-loop-f
-decreases-loop-f l = l.n - l.f

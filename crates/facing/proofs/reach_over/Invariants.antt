@@ -11,4 +11,4 @@ invariant-loop-at l =
     Spread (faces_of l.corners l.ends) l.code l.list l.at.low l.at.head l.at.tail
 
 abbrev pub decreases-loop-at : goal.decreases-loop-at
-decreases-loop-at l = l.n - l.at.head
+decreases-loop-at l = length l.ends - l.at.head

@@ -1,15 +1,8 @@
 -- `facing::reverse_faces` meets its contract: what is done before face f, and the rest turned by its codes, make the whole turned list.
 use mathlib.Core.Path.{refl}
 use native.Mathlib.Omega.{arith}
-use lib.ListN.{length}
-use Rattle.cell.proofs.Faces.{Step}
 use Rattle.facing.proofs.Reversing.{reverse_start, reverse_step, reverse_next, reverse_end}
 use Rattle.facing.proofs.reverse_faces.Goals as goal
-use Rattle.facing.proofs.reverse_faces.Goals.{After-corner-end}
-
--- where the face lies in the corner list
-stretch : (c : After-corner-end) → Step c.loop-f.start c.args.ends.now (length c.args.corners.now) c.loop-f.f c.corner-end.result
-stretch c = reverse_step c.loop-f.invariant (omega arith) c.corner-end.ensures.0
 
 pub loop-f-init : goal.loop-f-init
 loop-f-init c =
@@ -17,12 +10,12 @@ loop-f-init c =
 
 pub slice_bounds-reverse_by_code-end : goal.slice_bounds-reverse_by_code-end
 slice_bounds-reverse_by_code-end c =
-    let step = stretch (goal.at.slice_bounds-reverse_by_code-end c).After-corner-end in
-    omega (arith, step.upto, c.loop-f.invariant.long)
+    let step = reverse_step c.loop-f.invariant (omega arith) refl in
+    omega (arith, step.from, step.upto, c.loop-f.invariant.long)
 
 pub loop-f-preserved : goal.loop-f-preserved
 loop-f-preserved c =
-    reverse_next c.loop-f.invariant (omega arith) c.corner-end.ensures.0 c.requires.code_len.0 refl c.reverse_by_code-count.ensures.turned
+    reverse_next c.loop-f.invariant (omega arith) refl c.requires.code_len.0 refl c.reverse_by_code-count.ensures.turned
     (omega (arith, c.reverse_by_code-count.ensures.count))
 
 pub returns : goal.returns

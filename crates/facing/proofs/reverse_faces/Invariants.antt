@@ -1,4 +1,3 @@
-use Prim.Native.Nat.{◌-◌}
 use lib.ListN.{length}
 use Rattle.places.specs.Stored.{joined}
 use Rattle.exact.specs.Facing.{reversed_by, how_many}
@@ -11,6 +10,3 @@ abbrev pub invariant-loop-f : goal.invariant-loop-f
 invariant-loop-f l =
     Reversing l.initial.corners l.ends l.code (joined (reversed_by (code_choice l.code) (faces_of l.initial.corners l.ends)))
     (how_many (code_choice l.code) (length l.ends)) l.start l.f l.count l.corners
-
-abbrev pub decreases-loop-f : goal.decreases-loop-f
-decreases-loop-f l = l.n - l.f

@@ -1,9 +1,0 @@
--- `facing::choose_16` meets its contract: 256 zeros are a table with room for 16 rows of 16.
-use native.Mathlib.Nat.{mul-le-mul}
-use Rattle.places.proofs.Stamps.{zeros}
-use Rattle.facing.proofs.choose_16.Goals as goal
-
-pub choose_over-requires-clause-k_in_bounds : goal.choose_over-requires-clause-k_in_bounds
-choose_over-requires-clause-k_in_bounds c =
-    let rows = c.requires.k_bound in
-    (mul-le-mul rows.0 rows.0, zeros 256, rows.1, rows.2)

@@ -3,13 +3,13 @@
 use mathlib.Core.Path.{◌≡◌, refl, sym, ap, subst, ◌∙◌}
 use mathlib.Core.Logic.{◌≢◌}
 use mathlib.Core.List.{List, [], ◌∷◌}
-use Prim.Native.Nat.{ℕ, ◌+◌, ◌-◌, ◌<◌, ◌≤◌}
-use native.Mathlib.Decide.{ℕ_discrete}
+use Prim.Native.Nat.{ℕ, ◌+◌, ◌-◌, ◌<◌, ◌≤◌, min}
+use native.Mathlib.Decide.{ℕ_discrete, dec_lt}
 use native.Mathlib.Omega.{arith}
 use lib.Dec.{T, eqb→eq}
 use lib.ListN.{length, get_or, set, drop, length-set, drop_of_length-le, replicate, length-replicate}
 use lib.Seq.{slice, length-slice, get_or-set_same, get_or-set_other}
-use borrow.Author.Tests.{eq-eqb, ne_eqb}
+use borrow.Author.Tests.{lt-ltb, le-ltb, eq-eqb, ne_eqb}
 use Rattle.places.specs.Ring.{next_of}
 use Rattle.places.proofs.Loops.{Rounding, round_start, round_next, round_end}
 use Rattle.places.proofs.Stamps.{zeros, set_holds}
@@ -73,6 +73,14 @@ module _ {head next other : List ℕ} {s : ℕ} (k : Links head next other s) (h
         go i b (no n) = rw (there i n, get_or-set_other head m i (s + 1) 0 n) (kept i b)
 
 -- ---- a side from a to b
+-- the lesser of its ends is the lower
+pub lower_min : {m : ℕ} (a b : ℕ) → m ≡ min a b → m ≡ lower_of a b
+lower_min {m} a b e = go (dec_lt a b)
+  where
+    go : Dec (a < b) → m ≡ lower_of a b
+    go (yes h) = rw (lt-ltb a b h) (omega arith)
+    go (no n) = rw (le-ltb a b (omega arith)) (omega arith)
+
 -- one between two vertices
 pub lists_one : {head next other : List ℕ} {s m y : ℕ} (a b : ℕ) (l : List (ℕ × ℕ)) → Links head next other s → s < length next → m < 256
     → y < 512 → a ≢ b → m ≡ lower_of a b → y ≡ code_of a b → Lists head next other l

@@ -8,16 +8,8 @@ ghost use Rattle.places.specs.Lists.{Each};
 ghost use Rattle.places.specs.Steps.{Blank};
 ghost use Rattle.exact.specs.Sides.{closed_of};
 ghost use Rattle.cell.specs.Faces.{faces_of, rises};
-ghost use Rattle.closedness.specs.Steps.{lower_of, code_of, opposite_of, Chain, Backward, Links, Unlinked, Lists, Gains};
+ghost use Rattle.closedness.specs.Steps.{code_of, opposite_of, Chain, Backward, Links, Unlinked, Lists, Gains};
 ghost use Rattle.closedness.specs.Steps.{push, push_face, push_faces, gap_of, Room, Raised, Tallied, Even};
-
-// The lower end of a side.
-fn lower(a: usize, b: usize) -> usize
-    requires { (a < most_vertices) × (b < most_vertices) }
-    ensures { (result ≡ lower_of a b) × (result < most_vertices) }
-{
-    if a < b { a } else { b }
-}
 
 // What stands for a side in the chain of its lower end: the other end, and 256 more where it runs down, to the lower end.
 fn code(a: usize, b: usize) -> u16
@@ -45,7 +37,7 @@ fn link_side(head: &mut [u16], next: &mut [u16], other: &mut [u16], s: usize, a:
     if a == b {
         return;
     }
-    let m = lower(a, b);
+    let m = a.min(b);
     other[s] = code(a, b);
     next[s] = head[m];
     head[m] = (s + 1) as u16;
@@ -59,12 +51,10 @@ fn link_face(head: &mut [u16], next: &mut [u16], other: &mut [u16], s: usize, fa
     ensures gains { Gains (Lists head.old next.old other.old) (Lists head.new next.new other.new) (push_face face.now) }
 {
     let n = face.len();
-    let mut i = 0;
-    while i < n {
+    for i in 0..n {
         let a = places::corner(face, i);
         let b = places::corner(face, places::next(i, n));
         link_side(head, next, other, s + i, a, b);
-        i += 1;
     }
 }
 
@@ -76,14 +66,11 @@ fn link_faces(head: &mut [u16], next: &mut [u16], other: &mut [u16], corners: &[
     ensures gains { Gains (Lists head.old next.old other.old) (Lists head.new next.new other.new)
         (push_faces (faces_of corners.now ends.now)) }
 {
-    let n = ends.len();
     let mut start = 0;
-    let mut j = 0;
-    while j < n {
-        let end = places::corner(ends, j);
+    for &end in ends {
+        let end = end as usize;
         link_face(head, next, other, start, cell::face(corners, start, end));
         start = end;
-        j += 1;
     }
 }
 
@@ -122,12 +109,10 @@ fn even_chains(tally: &mut [u32], head: &[u16], next: &[u16], other: &[u16], v: 
     requires tally_len { (length tally.old ≡ 512) × Blank tally.old }
     ensures { (l : List (ℕ × ℕ)) → Lists head.now next.now other.now l → Even v l result }
 {
-    let mut m = 0;
-    while m < v {
-        if tally_chain(tally, next, other, places::read(head, m)) > 0 {
+    for &first in &head[..v] {
+        if tally_chain(tally, next, other, first as usize) > 0 {
             return false;
         }
-        m += 1;
     }
     true
 }
@@ -150,34 +135,14 @@ fn closed_linked(
     even_chains(&mut tally, &head, next, other, v)
 }
 
-// The same with lists of its own: what is cleared is not much more than what the corners need.
-fn closed_64(corners: &[u32], ends: &[u32], v: usize) -> bool
+// The same with lists of its own, of N places: what is cleared is not much more than what the corners need.
+fn closed_within<const N: usize>(corners: &[u32], ends: &[u32], v: usize) -> bool
     requires each { Each 0 (λ c. c < v) corners.now × (v ≤ most_vertices) × T (rises 0 ends.now (length corners.now)) }
-    requires corners_len_bound { length corners.now ≤ 64 }
+    requires room { (length corners.now ≤ N) × (N ≤ most_corners) }
     ensures { result ≡ closed_of (faces_of corners.now ends.now) }
 {
-    let mut next = [0u16; 64];
-    let mut other = [0u16; 64];
-    closed_linked(&mut next, &mut other, corners, ends, v)
-}
-
-fn closed_512(corners: &[u32], ends: &[u32], v: usize) -> bool
-    requires each { Each 0 (λ c. c < v) corners.now × (v ≤ most_vertices) × T (rises 0 ends.now (length corners.now)) }
-    requires corners_len_bound { length corners.now ≤ 512 }
-    ensures { result ≡ closed_of (faces_of corners.now ends.now) }
-{
-    let mut next = [0u16; 512];
-    let mut other = [0u16; 512];
-    closed_linked(&mut next, &mut other, corners, ends, v)
-}
-
-fn closed_2048(corners: &[u32], ends: &[u32], v: usize) -> bool
-    requires each { Each 0 (λ c. c < v) corners.now × (v ≤ most_vertices) × T (rises 0 ends.now (length corners.now)) }
-    requires corners_len_bound { length corners.now ≤ most_corners }
-    ensures { result ≡ closed_of (faces_of corners.now ends.now) }
-{
-    let mut next = [0u16; places::limits::MOST_CORNERS];
-    let mut other = [0u16; places::limits::MOST_CORNERS];
+    let mut next = [0u16; N];
+    let mut other = [0u16; N];
     closed_linked(&mut next, &mut other, corners, ends, v)
 }
 
@@ -189,10 +154,10 @@ pub fn closed(corners: &[u32], ends: &[u32], v: usize) -> bool
 {
     let n = corners.len();
     if n <= 64 {
-        return closed_64(corners, ends, v);
+        return closed_within::<64>(corners, ends, v);
     }
     if n <= 512 {
-        return closed_512(corners, ends, v);
+        return closed_within::<512>(corners, ends, v);
     }
-    closed_2048(corners, ends, v)
+    closed_within::<{ places::limits::MOST_CORNERS }>(corners, ends, v)
 }

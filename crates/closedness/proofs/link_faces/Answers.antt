@@ -8,31 +8,29 @@ use Rattle.cell.proofs.Faces.{rises_more}
 use Rattle.closedness.proofs.Linked.{faces_none, faces_more, faces_whole, face_length, all_read}
 use Rattle.closedness.proofs.link_faces.Goals as goal
 
-pub loop-j-init : goal.loop-j-init
-loop-j-init c =
-    (refl, omega arith, refl, refl, refl, c.requires.links.0, c.requires.each.1, λ l t. faces_none c.requires.each.1 t)
+pub loop-end-init : goal.loop-end-init
+loop-end-init c =
+    (refl, refl, refl, c.requires.links.0, c.requires.each.1, λ l t. faces_none c.requires.each.1 t)
 
 pub face-requires : goal.face-requires
 face-requires c =
-    let s = rises_more c.loop-j.start _ _ c.loop-j.j c.corner-end.result (omega arith) c.corner-end.ensures.0 c.loop-j.invariant.6 in
+    let s = rises_more c.loop-end.start _ _ c.loop-end.end-index _ (omega arith) refl c.loop-end.invariant.4 in
     (s.from, s.upto)
 
-pub loop-j-preserved : goal.loop-j-preserved
-loop-j-preserved c =
-    let more : c.loop-j.j < length c.args.ends.now = c.loop-j-test.true in
-    let s = rises_more c.loop-j.start _ _ c.loop-j.j c.corner-end.result more c.corner-end.ensures.0 c.loop-j.invariant.6 in
-    let length-is = face_length c.loop-j.start c.corner-end.result c.args.corners.now c.face.ensures s.from s.upto in (
-      c.loop-j.invariant.0,
-      omega arith,
+pub loop-end-preserved : goal.loop-end-preserved
+loop-end-preserved c =
+    let more : c.loop-end.end-index < length c.args.ends.now = c.loop-end-test.true in
+    let s = rises_more c.loop-end.start _ _ c.loop-end.end-index _ more refl c.loop-end.invariant.4 in
+    let length-is = face_length c.loop-end.start _ c.args.corners.now c.face.ensures s.from s.upto in (
       omega arith,
       omega arith,
       omega arith,
       rw length-is at c.link_face.ensures.links_2,
       s.rest,
-      λ l t. faces_more (c.loop-j.invariant.7 l t) more c.corner-end.ensures.0 c.face.ensures c.link_face.ensures.gains,
+      λ l t. faces_more (c.loop-end.invariant.5 l t) more refl c.face.ensures c.link_face.ensures.gains,
     )
 
 pub returns : goal.returns
 returns c =
-    let last = all_read c.loop-j.start c.args.ends.now (length c.args.corners.now) c.loop-j.j (omega arith) c.loop-j.invariant.6 in
-    record { links_2 = rw last at c.loop-j.invariant.5; gains = λ l t. faces_whole (c.loop-j.invariant.7 l t) (omega arith) }
+    let last = all_read c.loop-end.start c.args.ends.now (length c.args.corners.now) c.loop-end.end-index (omega arith) c.loop-end.invariant.4 in
+    record { links_2 = rw last at c.loop-end.invariant.3; gains = λ l t. faces_whole (c.loop-end.invariant.5 l t) (omega arith) }

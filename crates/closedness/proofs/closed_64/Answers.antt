@@ -1,8 +1,0 @@
--- `closedness::closed_64` meets its contract: lists of 64 zeros have a place for each corner.
-use native.Mathlib.Omega.{arith}
-use Rattle.closedness.proofs.Linked.{unlinked}
-use Rattle.closedness.proofs.closed_64.Goals as goal
-
-pub closed_linked-requires : goal.closed_linked-requires
-closed_linked-requires c =
-    record { each = c.requires.each; unlinked = unlinked 64 (omega arith) c.requires.corners_len_bound }

@@ -1,110 +1,125 @@
 -- Faces in one list with marks: what stands before the first mark is a face, and the rest of the list has the other faces, so that the loop
--- of `point_in_phed` takes in one face after the other.
-use mathlib.Core.Path.{◌≡◌, refl, sym, ◌∙◌}
-use mathlib.Core.Logic.{◌≢◌}
-use mathlib.Core.Bool.{Bool, true, false, cond}
+-- of `point_in_phed`, which splits the list at its marks, takes in one face after the other.
+use mathlib.Core.Path.{◌≡◌, sym, ◌∙◌, subst}
+use mathlib.Core.Bool.{Bool, true, false, true≢false}
 use mathlib.Core.List.{List, [], ◌∷◌, ◌++◌, append-nil, append_assoc}
-use Prim.Native.Nat.{ℕ, suc, ◌+◌, ◌-◌, ◌<◌, ◌≤◌}
+use Prim.Native.Nat.{ℕ, suc, zero-le}
 use native.Mathlib.Omega.{arith}
 use lib.Dec.{eqb}
-use lib.ListN.{length, get_or, take, drop, drop_of_length-le, length-drop}
-use lib.Seq.{drop-drop, get_or-drop}
-use borrow.Author.Tests.{eq-eqb, ne_eqb, eqb-false}
+use lib.ListN.{length, length-append}
+use borrow.Author.Tests.{eqb-false}
+use Rattle.std.proofs.Common.{Bor, Some}
+use Rattle.std.specs.Bool.{MatchBool}
+use Rattle.std.specs.Fn.{ComputesKey, Mut}
+use Rattle.std.specs.List.{AllWithin, HoldsAt, IsFirstMatchOrLen}
+use Rattle.std.specs.Slice.Iter.{split_rest, split_done, split_callee, split_steps}
+use Rattle.std.specs.declared.slice.Split.{Split}
+use Rattle.places.specs.Lists.{Each}
 use Rattle.places.specs.Loops.{fold_list}
-use Rattle.places.proofs.Loops.{drop_more}
 use Rattle.places.proofs.Lists.{each_nil, each_cons, each_head, each_tail}
 use Rattle.flat.specs.Points.{Point}
 use Rattle.flat.specs.Steps.{Inside}
 use Rattle.inside.specs.Inside.{face_end, marked_from, marked_faces, cross_marked, phed_contains_of}
-use Rattle.inside.specs.Steps.{before_mark, MarkedInside}
+use Rattle.inside.specs.Steps.{MarkedInside}
 
--- ---- how many corners stand before the first mark, from place i on
-module _ (cs : List ℕ) (i : ℕ) where
-  pub before_mark_lem : i < length cs → get_or cs i 0 ≡ face_end → before_mark (drop i cs) ≡ 0
-  unfolding before_mark
-  before_mark_lem h q = rw (drop_more cs i 0 h, eq-eqb (get_or cs i 0) face_end q)
+-- the test for a mark
+abbrev pub mark : ℕ → Bool
+mark c = eqb c face_end
 
-  pub before_corner : i < length cs → get_or cs i 0 ≢ face_end → before_mark (drop i cs) ≡ suc (before_mark (drop (i + 1) cs))
-  unfolding before_mark
-  before_corner h q = rw (drop_more cs i 0 h, ne_eqb (get_or cs i 0) face_end q)
+-- ---- what stands before the first mark, and the mark
+abbrev Unmarked : List ℕ → Type 0
+Unmarked xs = Each 0 (λ c. mark c ≡ false) xs
 
-  pub before_none : length cs ≤ i → before_mark (drop i cs) ≡ 0
-  unfolding before_mark
-  before_none h = rw (drop_of_length-le cs h)
+front : (xs l : List ℕ) → AllWithin (λ c. mark c ≡ false) (xs ++ l) 0 (length xs) → Unmarked xs
+front [] l h = each_nil
+front (x ∷ xs) l h = each_cons (h 0 0 zero-le (omega arith)) (front xs l (λ k d a b. h (suc k) d zero-le (omega arith)))
 
-before_below : (l : List ℕ) → before_mark l ≤ length l
-unfolding before_mark
-before_below [] = omega arith
-before_below (c ∷ cs) = go (eqb c face_end) (before_below cs)
-  where
-    go : (b : Bool) → before_mark cs ≤ length cs → cond b 0 (suc (before_mark cs)) ≤ suc (length cs)
-    go true h = omega arith
-    go false h = omega arith
+ended : (xs l : List ℕ) (y : ℕ) → HoldsAt (λ c. mark c ≡ true) (xs ++ y ∷ l) (length xs) → mark y ≡ true
+ended [] l y h = h 0
+ended (x ∷ xs) l y h = ended xs l y h
 
--- the face from place s on ends in the list
-pub end_within : (cs : List ℕ) (s : ℕ) → s ≤ length cs → s + before_mark (drop s cs) ≤ length cs
-end_within cs s h = omega (arith, before_below (drop s cs), length-drop s cs)
+unmarked : (face xs l : List ℕ) → Unmarked xs → marked_from face (xs ++ l) ≡ marked_from (face ++ xs) l
+unfolding marked_from
+unmarked face [] l h = rw (append-nil face)
+unmarked face (x ∷ xs) l h = rw (each_head h) (unmarked (face ++ x ∷ []) xs l (each_tail h) ∙ rw append_assoc)
 
--- ---- the first face, and the faces that come after its mark
-abbrev after_mark : List ℕ → List (List ℕ)
-after_mark [] = []
-after_mark (c ∷ cs) = marked_faces cs
+-- ---- a loop that takes in these faces: what is left of the list, if anything is, makes with the state s the whole
+pub record Splitting (vs : List Point) (p : Point) (whole : Bool) (it : Split ℕ (Unit {0})) (s : Bool) : Type 0 where
+  pub inside : split_done it ≡ false → MarkedInside vs (split_rest it)
+  pub more : split_done it ≡ false → fold_list (cross_marked vs p) (marked_faces (split_rest it)) s ≡ whole
+  pub done : split_done it ≡ true → s ≡ whole
 
-first_face : (face l : List ℕ) → marked_from face l ≡ (face ++ take (before_mark l) l) ∷ after_mark (drop (before_mark l) l)
-unfolding marked_from before_mark
-first_face face [] = rw (append-nil face)
-first_face face (c ∷ cs) = go (eqb c face_end) (first_face (face ++ c ∷ []) cs ∙ rw append_assoc)
-  where
-    go : (b : Bool) → marked_from (face ++ c ∷ []) cs ≡ (face ++ c ∷ take (before_mark cs) cs) ∷ after_mark (drop (before_mark cs) cs)
-        → cond b (face ∷ marked_from [] cs) (marked_from (face ++ c ∷ []) cs)
-        ≡ (face ++ take (cond b 0 (suc (before_mark cs))) (c ∷ cs)) ∷ after_mark (drop (cond b 0 (suc (before_mark cs))) (c ∷ cs))
-    go true r = rw (append-nil face)
-    go false r = r
-
--- ---- a loop that takes in these faces: from place i and the state s on it comes to `whole`
-pub record Marking (vs : List Point) (p : Point) (cs : List ℕ) (whole : Bool) (i : ℕ) (s : Bool) : Type 0 where
-  pub so : fold_list (cross_marked vs p) (marked_faces (drop i cs)) s ≡ whole
-
--- with no mark left there is no face left, or an empty one, which is skipped
-after_mark_lem : (vs : List Point) (p : Point) (l : List ℕ) (s : Bool)
-    → fold_list (cross_marked vs p) (after_mark l) s ≡ fold_list (cross_marked vs p) (marked_faces (drop 1 l)) s
-unfolding fold_list marked_from cross_marked
-after_mark_lem vs p [] s = refl
-after_mark_lem vs p (c ∷ cs) s = refl
-
-module _ {vs : List Point} {p : Point} where
-  pub mark_start : {cs : List ℕ} → Marking vs p cs (phed_contains_of vs p cs) 0 false
-  unfolding phed_contains_of
-  mark_start = record { so = refl }
-
-  pub mark_next : {cs : List ℕ} {whole : Bool} {i e : ℕ} {s s' : Bool} → Marking vs p cs whole i s → e ≡ i + before_mark (drop i cs)
-      → s' ≡ cross_marked vs p (take (e - i) (drop i cs)) s → Marking vs p cs whole (e + 1) s'
-  unfolding fold_list
-  mark_next {cs} {whole} {i} {e} {s} {s'} m q g =
-      let n = before_mark (drop i cs) in
-      let k : e - i ≡ n = omega arith in
-      let d : drop 1 (drop n (drop i cs)) ≡ drop (e + 1) cs = rw (drop-drop n i cs, drop-drop 1 (i + n) cs, q) in
-      record { so = rw (← d, g, k) (sym (rw (first_face [] (drop i cs)) (after_mark_lem vs p (drop n (drop i cs)) _)) ∙ m.so) }
-
-  pub mark_end : {cs : List ℕ} {whole : Bool} {i : ℕ} {s : Bool} → Marking vs p cs whole i s → length cs ≤ i → s ≡ whole
-  unfolding fold_list marked_from cross_marked
-  mark_end {cs} m h = sym (rw (drop_of_length-le cs h)) ∙ m.so
-
--- ---- a face before a mark is inside
 module _ (vs : List Point) where
-  open_inside : (l : List ℕ) → MarkedInside vs l → Inside vs (take (before_mark l) l)
-  unfolding before_mark
-  open_inside [] m = each_nil
-  open_inside (c ∷ cs) m = go (eqb c face_end) refl (open_inside cs (each_tail m))
-    where
-      go : (b : Bool) → eqb c face_end ≡ b → Inside vs (take (before_mark cs) cs) →
-          Inside vs (take (cond b 0 (suc (before_mark cs))) (c ∷ cs))
-      go true e r = each_nil
-      go false e r = each_cons (each_head m (eqb-false c face_end e)) r
+  inside_front : (xs l : List ℕ) → Unmarked xs → MarkedInside vs (xs ++ l) → Inside vs xs
+  inside_front [] l u m = each_nil
+  inside_front (x ∷ xs) l u m =
+      each_cons (each_head m (eqb-false x face_end (each_head u))) (inside_front xs l (each_tail u) (each_tail m))
 
-  pub inside_marked : (cs : List ℕ) (i e : ℕ) → e ≡ i + before_mark (drop i cs) → MarkedInside vs cs → Inside vs (take (e - i) (drop i cs))
-  inside_marked cs i e q m =
-      let k : e - i ≡ before_mark (drop i cs) = omega arith in
-      let rest : MarkedInside vs (drop i cs) =
-      record { holds = λ j h. rw (get_or-drop i cs j 0) (m.holds (i + j) (omega (arith, length-drop i cs))) } in
-      rw k (open_inside (drop i cs) rest)
+  inside_after : (xs l : List ℕ) (y : ℕ) → MarkedInside vs (xs ++ y ∷ l) → MarkedInside vs l
+  inside_after [] l y m = each_tail m
+  inside_after (x ∷ xs) l y m = inside_after xs l y (each_tail m)
+
+  -- the part xs that comes off the list l, and what is left: nothing where it was the last one
+  record Part (l xs : List ℕ) (last : Bool) (left : List ℕ) : Type 0 where
+    pub inside : Inside vs xs
+    pub rest : last ≡ false → MarkedInside vs left
+    pub only : last ≡ true → marked_faces l ≡ xs ∷ []
+    pub more : last ≡ false → marked_faces l ≡ xs ∷ marked_faces left
+
+  last_part : (xs left : List ℕ) → IsFirstMatchOrLen mark xs (length xs) → MarkedInside vs xs → Part xs xs true left
+  unfolding marked_from
+  last_part xs left f m =
+      let u : Unmarked xs = front xs [] (rw (append-nil xs) f.0) in
+      let all : marked_from [] (xs ++ []) ≡ xs ∷ [] = unmarked [] xs [] u in
+      record {
+        inside = inside_front xs [] u (rw (append-nil xs) m);
+        rest = λ e. absurd (true≢false e);
+        only = λ e. rw append-nil at all;
+        more = λ e. absurd (true≢false e);
+      }
+
+  next_part : (xs left : List ℕ) (y : ℕ) → IsFirstMatchOrLen mark (xs ++ y ∷ left) (length xs) → MarkedInside vs (xs ++ y ∷ left)
+      → Part (xs ++ y ∷ left) xs false left
+  unfolding marked_from
+  next_part xs left y f m =
+      let u : Unmarked xs = front xs (y ∷ left) f.0 in
+      let t : mark y ≡ true = ended xs left y (f.1 (omega (arith, length-append xs (y ∷ left)))) in
+      record {
+        inside = inside_front xs (y ∷ left) u m;
+        rest = λ e. inside_after xs left y m;
+        only = λ e. absurd (true≢false (sym e));
+        more = λ e. unmarked [] xs (y ∷ left) u ∙ rw t;
+      }
+
+  part : (last : Bool) (l xs left : List ℕ) → MatchBool last (l ≡ xs) ((y : ℕ) × (l ≡ xs ++ y ∷ left))
+      → IsFirstMatchOrLen mark l (length xs) → MarkedInside vs l → Part l xs last left
+  part true l xs left e f m =
+      subst (λ (l : List ℕ). IsFirstMatchOrLen mark l (length xs) → MarkedInside vs l → Part l xs true left) (sym e) (last_part xs left) f m
+  part false l xs left (y, e) f m =
+      subst (λ (l : List ℕ). IsFirstMatchOrLen mark l (length xs) → MarkedInside vs l → Part l xs false left) (sym e)
+      (next_part xs left y) f m
+
+module _ {vs : List Point} {p : Point} {it : Split ℕ (Unit {0})} where
+  pub split_start : {cs : List ℕ} → split_rest it ≡ cs → split_done it ≡ false → MarkedInside vs cs
+      → Splitting vs p (phed_contains_of vs p cs) it false
+  unfolding phed_contains_of
+  split_start r d m = record { inside = λ e. rw r m; more = λ e. rw r; done = λ e. absurd (true≢false (sym e ∙ d)) }
+
+  module _ {whole s : Bool} (it' : Split ℕ (Unit {0})) (face : Bor (List ℕ)) {g : Mut (Unit {0}) (Bor ℕ × Unit {0}) Bool}
+      (m : Splitting vs p whole it s) (step : split_steps g it (Some face) it') (key : ComputesKey g mark (split_callee it)) where
+    off : Part vs (split_rest it) face.now (split_done it') (split_rest it')
+    off = part vs (split_done it') (split_rest it) face.now (split_rest it') step.1 (step.2 mark key).1 (m.inside step.0)
+
+    pub split_inside : Inside vs face.now
+    split_inside = off.inside
+
+    pub split_next : {s' : Bool} → s' ≡ cross_marked vs p face.now s → Splitting vs p whole it' s'
+    unfolding fold_list
+    split_next {s'} h =
+        let q = off in
+        let before = m.more step.0 in
+        record {
+          inside = λ e. q.rest e;
+          more = λ e. rw h (rw (q.more e) at before);
+          done = λ e. rw h (rw (q.only e) at before);
+        }

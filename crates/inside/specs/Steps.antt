@@ -1,13 +1,8 @@
 -- What functions below the gatehouse ask of and promise each other; no contract of a public entry speaks of these.
-use Rattle.std.specs.Prelude.{cond, ℕ, suc, ◌<◌, ◌≢◌, List, [], ◌∷◌, eqb, length}
+use Rattle.std.specs.Prelude.{ℕ, ◌<◌, ◌≢◌, List, length}
 use Rattle.inside.specs.Inside.{face_end}
 use Rattle.places.specs.Lists.{Each}
 use Rattle.flat.specs.Points.{Point}
-
--- how many corners stand before the first mark
-unfoldable pub before_mark : List ℕ → ℕ
-before_mark [] = 0
-before_mark (c ∷ cs) = cond (eqb c face_end) 0 (suc (before_mark cs))
 
 -- every entry that is no mark is the number of a vertex
 abbrev pub MarkedInside : List Point → List ℕ → Type 0

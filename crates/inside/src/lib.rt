@@ -1,7 +1,7 @@
 // Containment: the ray along +x, a cell's faces, and faces in one list with marks.
 #![tactic(auto)]
 
-ghost use Rattle.std.specs.Prelude.{◌≡◌, ℕ, ◌+◌, ◌<◌, ◌≤◌, length, drop};
+ghost use Rattle.std.specs.Prelude.{◌≡◌, ◌≤◌, length};
 ghost use Rattle.places.specs.Limits.{most_marked_corners};
 ghost use Rattle.flat.specs.Points.{vertices_of};
 ghost use Rattle.flat.specs.Steps.{Inside};
@@ -11,7 +11,7 @@ ghost use Rattle.cell.specs.Steps.{Sound};
 ghost use Rattle.inside.specs.Ray.{meets_at, passes, pass_side, in_outline, along_of, distance_ahead, ray_crosses};
 ghost use Rattle.places.specs.Loops.{count_of};
 ghost use Rattle.inside.specs.Inside.{cross_face, cross_marked, contains_of, holds, phed_contains_of};
-ghost use Rattle.inside.specs.Steps.{MarkedInside, before_mark};
+ghost use Rattle.inside.specs.Steps.{MarkedInside};
 
 // Where the side from a to b meets the height of p.
 fn meets_at(p: [f64; 2], a: [f64; 2], b: [f64; 2]) -> f64
@@ -25,11 +25,7 @@ fn meets_at(p: [f64; 2], a: [f64; 2], b: [f64; 2]) -> f64
 fn passes(p: [f64; 2], a: [f64; 2], b: [f64; 2]) -> bool
     ensures { result ≡ passes p a b }
 {
-    if (a[1] > p[1]) != (b[1] > p[1]) {
-        p[0] < meets_at(p, a, b)
-    } else {
-        false
-    }
+    (a[1] > p[1]) != (b[1] > p[1]) && p[0] < meets_at(p, a, b)
 }
 
 // A side that passes turns the answer round.
@@ -51,12 +47,10 @@ fn in_outline(coords: &[f64], face: &[u32], axis: usize, p: [f64; 2]) -> bool
     let first = flat::space::point_at(coords, face, axis, 0);
     let mut inside = false;
     let mut a = first;
-    let mut i = 1;
-    while i < n {
+    for i in 1..n {
         let b = flat::space::point_at(coords, face, axis, i);
         inside = pass_side(p, a, b, inside);
         a = b;
-        i += 1;
     }
     pass_side(p, a, first, inside)
 }
@@ -125,30 +119,13 @@ pub fn contains(coords: &[f64], corners: &[u32], ends: &[u32], p: [f64; 3]) -> b
 {
     let mut inside = false;
     let mut start = 0;
-    let mut k = 0;
-    while k < ends.len() {
-        let end = places::corner(ends, k);
+    for &end in ends {
+        let end = end as usize;
         let face = cell::face(corners, start, end);
         inside = cross_face(coords, face, p, inside);
         start = end;
-        k += 1;
     }
     inside
-}
-
-// Where the face that starts at a place ends: at the first mark from there on, or at the end of the list.
-fn face_end(cs: &[u32], start: usize) -> usize
-    requires { start ≤ length cs.now }
-    ensures { result ≡ start + before_mark (drop start cs.now) }
-{
-    let mut i = start;
-    while i < cs.len() {
-        if cs[i] == 4294967295 {
-            return i;
-        }
-        i += 1;
-    }
-    i
 }
 
 // A face of a list with marks turns the answer round where it is crossed. Under 3 corners it is skipped.
@@ -171,11 +148,8 @@ pub fn point_in_phed(coords: &[f64], cs: &[u32], p: [f64; 3]) -> bool
     ensures { result ≡ phed_contains_of (vertices_of coords.now) p cs.now }
 {
     let mut inside = false;
-    let mut start = 0;
-    while start < cs.len() {
-        let end = face_end(cs, start);
-        inside = cross_marked(coords, &cs[start..end], p, inside);
-        start = end + 1;
+    for face in cs.split(|c| *c == 4294967295) {
+        inside = cross_marked(coords, face, p, inside);
     }
     inside
 }
@@ -186,13 +160,10 @@ pub fn count_contained(coords: &[f64], corners: &[u32], ends: &[u32], queries: &
     requires queries_len_bound { length queries.now ≤ 770 }
     ensures { result ≡ count_of (holds (vertices_of coords.now) (faces_of corners.now ends.now)) (vertices_of queries.now) }
 {
-    let n = queries.len() / 3;
     let mut found = 0;
-    let mut i = 0;
-    while i < n {
+    for i in 0..queries.len() / 3 {
         let p = flat::space::vertex(queries, i);
-        found += places::one_if(contains(coords, corners, ends, p));
-        i += 1;
+        found += usize::from(contains(coords, corners, ends, p));
     }
     found
 }

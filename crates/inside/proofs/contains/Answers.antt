@@ -6,19 +6,19 @@ use Rattle.cell.proofs.Faces.{face_start, face_step, face_next, face_end_lem}
 use Rattle.inside.specs.Inside.{contains_of}
 use Rattle.inside.proofs.contains.Goals as goal
 
-pub loop-k-init : goal.loop-k-init
+pub loop-end-init : goal.loop-end-init
 unfolding contains_of
-loop-k-init c =
+loop-end-init c =
     face_start c.requires.ordered refl
 
 pub face-face-requires : goal.face-face-requires
 face-face-requires c =
-    let step = face_step c.loop-k.invariant (omega arith) c.corner-end.ensures.0 in
+    let step = face_step c.loop-end.invariant (omega arith) refl in
     (step.from, step.upto)
 
-pub loop-k-preserved : goal.loop-k-preserved
-loop-k-preserved c =
-    face_next c.loop-k.invariant (omega arith) c.corner-end.ensures.0 (cc)
+pub loop-end-preserved : goal.loop-end-preserved
+loop-end-preserved c =
+    face_next c.loop-end.invariant (omega arith) refl (cc)
 
 pub returns : goal.returns
-returns c = face_end_lem c.loop-k.invariant (omega arith)
+returns c = face_end_lem c.loop-end.invariant (omega arith)

@@ -1,6 +1,3 @@
-use mathlib.Core.Path.{◌≡◌}
-use Prim.Native.Nat.{◌-◌}
-use lib.ListN.{length}
 use Rattle.places.specs.Loops.{count_of}
 use Rattle.places.proofs.Loops.{Counting}
 use Rattle.flat.specs.Points.{vertices_of}
@@ -12,7 +9,4 @@ abbrev pub invariant-loop-i : goal.invariant-loop-i
 invariant-loop-i l =
     let test = holds (vertices_of l.coords) (faces_of l.corners l.ends) in
     let ps = vertices_of l.queries in
-    (l.n ≡ length ps) × Counting test ps (count_of test ps) l.i l.found
-
-abbrev pub decreases-loop-i : goal.decreases-loop-i
-decreases-loop-i l = l.n - l.i
+    Counting test ps (count_of test ps) l.i l.found

@@ -1,4 +1,3 @@
-use Prim.Native.Nat.{◌-◌}
 use Rattle.flat.specs.Points.{vertices_of}
 use Rattle.flat.specs.Flat.{points_of}
 use Rattle.inside.specs.Ray.{pass_side, in_outline}
@@ -9,6 +8,3 @@ abbrev pub invariant-loop-i : goal.invariant-loop-i
 invariant-loop-i l =
     let ps = points_of (vertices_of l.coords) l.axis l.face in
     Walking (pass_side l.p) ps (in_outline l.p ps) l.first l.i l.a l.inside
-
-abbrev pub decreases-loop-i : goal.decreases-loop-i
-decreases-loop-i l = l.n - l.i

@@ -7,14 +7,14 @@ use mathlib.Core.Bool.{Bool, true, false, not, cond, false≢true}
 use lib.Dec.{T, eqb}
 use borrow.Author.Tests.{le-leb, ne_eqb, ltb-false}
 use lib.Pow.{pow_pos}
-use lib.Ieee.{Float, nan, inf, fin, Format, binary64, prec, low, hid, ones, odd, div, ne, fits, is_nan, of_fields, of_bits, to_bits}
+use lib.Ieee.{Float, nan, inf, fin, Format, binary64, prec, low, hid, ones, odd, fits, is_nan, of_fields, of_bits, to_bits}
 use lib.Ieee.Exact.{HasValue, odd_sign}
 use lib.Ieee.Bits.{of_bits-to_bits, nan_bits_is, nan_bits_above, is_false}
 use Rattle.floats.specs.Root.{root_of}
-use Rattle.floats.proofs.Nans.{is_nan_lem, quotient}
+use Rattle.floats.proofs.Nans.{is_nan_lem, written}
 use Rattle.floats.proofs.Rounded.{not_zero}
 
-pub root_of_nan : (x : Float) → ne x x ≡ true → x ≡ root_of binary64 x
+pub root_of_nan : (x : Float) → is_nan x ≡ true → x ≡ root_of binary64 x
 unfolding root_of
 root_of_nan x h = rw (is_nan_lem x h)
 
@@ -70,8 +70,8 @@ below_bits b lo hi =
     ∙ below_fields binary64 (b % 2 ^ 63 / 2 ^ 52) (b % 2 ^ 52) (omega arith)
 
 pub root_below : (x : Float) → T (fits binary64 x) → 2 ^ 63 < to_bits binary64 x → to_bits binary64 x < 2 ^ 64
-    → div binary64 (of_bits binary64 0) (of_bits binary64 0) ≡ root_of binary64 x
-root_below x h lo hi = quotient ∙ sym (ap (root_of binary64) (sym (of_bits-to_bits binary64 x h)) ∙ below_bits (to_bits binary64 x) lo hi)
+    → of_bits binary64 0x7ff8_0000_0000_0000 ≡ root_of binary64 x
+root_below x h lo hi = written ∙ sym (ap (root_of binary64) (sym (of_bits-to_bits binary64 x h)) ∙ below_bits (to_bits binary64 x) lo hi)
 
 -- ---- a pattern that is no NaN's is at most the infinity's, without the sign's bit, and below that bit as it is
 pub bare_at_most_infinity : (x : Float) → T (fits binary64 x) → T (not (is_nan x)) → to_bits binary64 x % 2 ^ 63 ≤ 0x7ff0_0000_0000_0000

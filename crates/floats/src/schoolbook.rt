@@ -19,7 +19,7 @@ ghost use Rattle.std.specs.Prelude.{◌≡◌, ◌+◌, ◌*◌, ◌^◌, ◌≤
 ghost use Rattle.floats.specs.Schoolbook.{Extracted, rounded_off};
 
 // The digits of the root so far, and the remainder.
-#[derive(Drop)]
+#[derive(Clone, Copy)]
 pub struct Extraction {
     pub root: u64,
     pub rest: u64,
@@ -53,12 +53,10 @@ pub fn extract(root: u64, rest: u64, n: u64) -> Extraction
 {
     let mut r = Extraction { root, rest };
     let mut left = n;
-    let mut i: u64 = 0;
-    while i < 27 {
+    for _ in 0..27_u32 {
         let pair = left / 0x10_0000_0000_0000;
         r = step(r.root, r.rest, pair);
         left = left % 0x10_0000_0000_0000 * 4;
-        i += 1;
     }
     r
 }

@@ -6,7 +6,7 @@ ghost use Rattle.floats.specs.Steps.{Scaling, RootPattern};
 use super::schoolbook;
 
 // a * 4^h
-#[derive(Drop)]
+#[derive(Clone, Copy)]
 pub struct Scaled {
     pub a: u64,
     pub h: u64,

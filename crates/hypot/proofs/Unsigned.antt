@@ -1,18 +1,21 @@
 -- A pattern without the sign's bit is that of the magnitude, so the length of two numbers is that of their patterns without it. Beside an
 -- infinity or a NaN `hypot_of` is what the code tests for and returns.
-use mathlib.Core.Path.{◌≡◌, refl, sym, ap, ◌∙◌, subst}
-use Prim.Native.Nat.{ℕ, zero, suc, ◌+◌, ◌/◌, ◌%◌, ◌^◌}
+use mathlib.Core.Path.{◌≡◌, refl, sym, ap, ◌∙◌}
+use Prim.Native.Nat.{ℕ, zero, suc, ◌+◌, ◌/◌, ◌%◌, ◌^◌, ◌<◌, ◌≤◌, max, min}
+use mathlib.Core.Logic.{⊎_elim}
+use Rattle.std.proofs.lemmas.Bool.{cases_lt}
 use native.Mathlib.Omega.{arith}
 use mathlib.Core.Bool.{Bool, true, false, cond, true≢false}
 use lib.Dec.{T, leb, eqb}
 use borrow.Author.Tests.{lt-leb}
-use lib.Ieee.{Float, nan, inf, fin, Format, binary64, prec, low, hid, ones, odd, div, neg, eq, fits, of_fields, of_bits, to_bits}
+use lib.Ieee.{Float, nan, inf, fin, Format, binary64, prec, low, hid, ones, odd, fits, of_fields, of_bits, to_bits}
 use lib.Ieee.Bits.{of_bits-to_bits}
+use Rattle.std.specs.Float.{float_is_infinite}
 use Rattle.floats.specs.Pick.{magnitude_of}
-use Rattle.floats.specs.F64.{◌/f◌, zero64, one64}
-use Rattle.floats.proofs.Nans.{quotient}
+use Rattle.floats.proofs.Nans.{written}
 use Rattle.hypot.specs.Hypot.{hypot_of}
-use Rattle.hypot.proofs.Signless.{no_signs, beside_infinity}
+use Rattle.hypot.specs.Steps.{LengthPattern}
+use Rattle.hypot.proofs.Signless.{either_order, no_signs, beside_infinity}
 use Rattle.hypot.proofs.Packing.{infinity_is}
 
 -- ---- the fields of a pattern, read with either sign, have the same magnitude
@@ -66,44 +69,49 @@ same_hypot x y h k =
     ap (λ (v : Float). hypot_of binary64 v (of_bits binary64 (bare y))) (bare_is x h)
     ∙ ap (hypot_of binary64 (magnitude_of x)) (bare_is y k) ∙ no_signs binary64 x y
 
--- ---- code writes 1 / 0 for the infinity
-abbrev top : Float
-top = one64 /f zero64
-
-top_is : top ≡ inf false
-unfolding div of_bits
-top_is = refl
-
-minus_top : neg top ≡ inf true
-unfolding neg div of_bits
-minus_top = refl
-
 -- x is infinite, as its pattern says
-pub with_infinity : (x y : Float) → T (fits binary64 x) → T (fits binary64 y) → bare x ≡ 0x7ff0_0000_0000_0000 → top ≡ hypot_of binary64 x y
+pub with_infinity : (x y : Float) → T (fits binary64 x) → T (fits binary64 y) → bare x ≡ 0x7ff0_0000_0000_0000
+    → of_bits binary64 0x7ff0_0000_0000_0000 ≡ hypot_of binary64 x y
 with_infinity x y h k e =
-    top_is ∙ sym (beside_infinity binary64 false (of_bits binary64 (bare y))).0
+    infinity_is ∙ sym (beside_infinity binary64 false (of_bits binary64 (bare y))).0
     ∙ ap (λ (v : Float). hypot_of binary64 v (of_bits binary64 (bare y))) (sym (ap (of_bits binary64) e ∙ infinity_is)) ∙ same_hypot x y h k
 
+-- ---- the longer of two comes first
+pub longer_infinite : (x y : Float) → T (fits binary64 x) → T (fits binary64 y) → max (bare x) (bare y) ≡ 0x7ff0_0000_0000_0000
+    → of_bits binary64 0x7ff0_0000_0000_0000 ≡ hypot_of binary64 x y
+longer_infinite x y h k e = ⊎_elim second first (cases_lt (bare x) (bare y))
+  where
+    second : bare x < bare y → of_bits binary64 0x7ff0_0000_0000_0000 ≡ hypot_of binary64 x y
+    second l = with_infinity y x k h (omega arith) ∙ either_order binary64 y x
+
+    first : bare y ≤ bare x → of_bits binary64 0x7ff0_0000_0000_0000 ≡ hypot_of binary64 x y
+    first l = with_infinity x y h k (omega arith)
+
+pub longer_first : (x y : Float) → T (fits binary64 x) → T (fits binary64 y) → (r : ℕ)
+    → LengthPattern (max (bare x) (bare y)) (min (bare x) (bare y)) r → of_bits binary64 r ≡ hypot_of binary64 x y
+longer_first x y h k r l = ⊎_elim second first (cases_lt (bare x) (bare y))
+  where
+    second : bare x < bare y → of_bits binary64 r ≡ hypot_of binary64 x y
+    second m =
+        let a : max (bare x) (bare y) ≡ bare y = omega arith in
+        let b : min (bare x) (bare y) ≡ bare x = omega arith in
+        (rw (a, b) at l).hypot ∙ same_hypot y x k h ∙ either_order binary64 y x
+
+    first : bare y ≤ bare x → of_bits binary64 r ≡ hypot_of binary64 x y
+    first m =
+        let a : max (bare x) (bare y) ≡ bare x = omega arith in
+        let b : min (bare x) (bare y) ≡ bare y = omega arith in
+        (rw (a, b) at l).hypot ∙ same_hypot x y h k
+
 -- ---- beside a NaN
-is_infinite : (z : Float) (s : Bool) → eq z (inf s) ≡ true → hypot_of binary64 z nan ≡ inf false
-unfolding eq hypot_of
-is_infinite nan s h = absurd (true≢false (sym h))
-is_infinite (inf t) s h = refl
-is_infinite (fin t m e) s h = absurd (true≢false (sym h))
+pub nan_and_infinite : (z : Float) → float_is_infinite z ≡ true → of_bits binary64 0x7ff0_0000_0000_0000 ≡ hypot_of binary64 z nan
+unfolding float_is_infinite hypot_of
+nan_and_infinite nan h = absurd (true≢false (sym h))
+nan_and_infinite (inf s) h = infinity_is
+nan_and_infinite (fin s m e) h = absurd (true≢false (sym h))
 
-neither : (z : Float) → eq z (inf false) ≡ false → eq z (inf true) ≡ false → hypot_of binary64 z nan ≡ nan
-unfolding eq hypot_of
-neither nan h k = refl
-neither (inf true) h k = absurd (true≢false k)
-neither (inf false) h k = absurd (true≢false h)
-neither (fin t m e) h k = refl
-
-pub nan_and_top : (z : Float) → eq z top ≡ true → top ≡ hypot_of binary64 z nan
-nan_and_top z h = top_is ∙ sym (is_infinite z false (subst (λ (v : Float). eq z v ≡ true) top_is h))
-
-pub nan_and_minus_top : (z : Float) → eq z (neg top) ≡ true → top ≡ hypot_of binary64 z nan
-nan_and_minus_top z h = top_is ∙ sym (is_infinite z true (subst (λ (v : Float). eq z v ≡ true) minus_top h))
-
-pub nan_and_other : (z : Float) → eq z top ≡ false → eq z (neg top) ≡ false → zero64 /f zero64 ≡ hypot_of binary64 z nan
-nan_and_other z h k =
-    quotient ∙ sym (neither z (subst (λ (v : Float). eq z v ≡ false) top_is h) (subst (λ (v : Float). eq z v ≡ false) minus_top k))
+pub nan_and_other : (z : Float) → float_is_infinite z ≡ false → of_bits binary64 0x7ff8_0000_0000_0000 ≡ hypot_of binary64 z nan
+unfolding float_is_infinite hypot_of
+nan_and_other nan h = written
+nan_and_other (inf s) h = absurd (true≢false h)
+nan_and_other (fin s m e) h = written

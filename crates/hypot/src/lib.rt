@@ -10,17 +10,15 @@ ghost use Rattle.std.specs.Float.{binary64, nan};
 ghost use Rattle.hypot.specs.Hypot.{hypot_of};
 
 // The length of z and a NaN: infinite where z is, else a NaN.
+#[tactic(auto, using(crate::proofs::Unsigned::nan_and_infinite, crate::proofs::Unsigned::nan_and_other))]
 fn beside_nan(z: f64) -> f64
     ensures { result ≡ hypot_of binary64 z nan }
 {
-    let infinity: f64 = 1.0 / 0.0;
-    if z == infinity {
-        return infinity;
+    if z.is_infinite() {
+        f64::INFINITY
+    } else {
+        f64::NAN
     }
-    if z == -infinity {
-        return infinity;
-    }
-    0.0 / 0.0
 }
 
 // hypot(x, y). Neither order nor signs matter, so the patterns are taken without the sign's bit, the larger one first.
@@ -29,22 +27,17 @@ fn beside_nan(z: f64) -> f64
 pub fn hypot(x: f64, y: f64) -> f64
     ensures { result ≡ hypot_of binary64 x y }
 {
-    if x != x {
+    if x.is_nan() {
         return beside_nan(y);
     }
-    if y != y {
+    if y.is_nan() {
         return beside_nan(x);
     }
-    let p: u64 = f64::to_bits(x) % 0x8000_0000_0000_0000;
-    let q: u64 = f64::to_bits(y) % 0x8000_0000_0000_0000;
-    if p == 0x7ff0_0000_0000_0000 {
-        return 1.0 / 0.0;
+    let p = x.to_bits() % 0x8000_0000_0000_0000;
+    let q = y.to_bits() % 0x8000_0000_0000_0000;
+    let longer = p.max(q);
+    if longer == 0x7ff0_0000_0000_0000 {
+        return f64::INFINITY;
     }
-    if q == 0x7ff0_0000_0000_0000 {
-        return 1.0 / 0.0;
-    }
-    if p < q {
-        return f64::from_bits(patterns::length_pattern(q, p));
-    }
-    f64::from_bits(patterns::length_pattern(p, q))
+    f64::from_bits(patterns::length_pattern(longer, p.min(q)))
 }

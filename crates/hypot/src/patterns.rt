@@ -5,17 +5,18 @@ ghost use Rattle.std.specs.Float.{binary64};
 ghost use Rattle.std.specs.Float.Ieee.{of_bits, nan_bits, units};
 ghost use Rattle.hypot.specs.Steps.{InUnits, Leading, marked, LengthPattern};
 
-use super::{quick_root, squares};
+use super::quick_root;
+use super::squares::{self, Sum};
 
 // m * 2^e units
-#[derive(Drop)]
+#[derive(Clone, Copy)]
 pub struct Units {
     pub m: u64,
     pub e: u64,
 }
 
 // The leading digits of a root, `moved` binary places up: (root * root + rest) * 4^moved and, below that, what is lost, in parts of 4^s.
-#[derive(Drop)]
+#[derive(Clone, Copy)]
 pub struct Digits {
     pub root: u64,
     pub rest: u64,
@@ -64,10 +65,7 @@ fn leading(a: u64, b: u64, s: u64) -> Digits
     requires s_bound { s < 27 }
     ensures { Leading a b s result.root result.rest result.lost result.moved }
 {
-    let sum = squares::sum_of_squares(a, b, s);
-    let high = sum.high;
-    let low = sum.low;
-    let lost = sum.lost;
+    let Sum { high, low, lost } = squares::sum_of_squares(a, b, s);
     if high < 0x40_0000_0000_0000 {
         let r = quick_root::root_of(high, low);
         return Digits {
@@ -91,12 +89,7 @@ fn leading(a: u64, b: u64, s: u64) -> Digits
 fn with_lost(rest: u64, lost: u64) -> u64
     ensures { result ≡ marked rest lost }
 {
-    if rest == 0 {
-        if 0 < lost {
-            return 1;
-        }
-    }
-    rest
+    if rest == 0 && 0 < lost { 1 } else { rest }
 }
 
 // The pattern of the length of the numbers whose patterns are p, the larger one, and q. Where q is 0, or its exponent is 27 or more below

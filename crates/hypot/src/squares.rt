@@ -3,14 +3,14 @@ ghost use Rattle.std.specs.Prelude.{◌≡◌, ◌+◌, ◌*◌, ◌^◌, ◌<�
 ghost use Rattle.hypot.specs.Steps.{SumOfSquares};
 
 // high * 2^54 + low
-#[derive(Drop)]
+#[derive(Clone, Copy)]
 pub struct Wide {
     pub high: u64,
     pub low: u64,
 }
 
 // (high * 2^54 + low) * 4^s + lost
-#[derive(Drop)]
+#[derive(Clone, Copy)]
 pub struct Sum {
     pub high: u64,
     pub low: u64,
@@ -22,8 +22,7 @@ pub fn power_of_four(s: u64) -> u64
     requires { s < 27 }
     ensures { result ≡ 2 ^ s * 2 ^ s }
 {
-    let one: u64 = 1;
-    one << 2 * s
+    1_u64 << (2 * s)
 }
 
 // c * c, by halves of 27 digits: 2 * h * l belongs half to the one limb and half to the other.
@@ -56,14 +55,10 @@ pub fn sum_of_squares(a: u64, b: u64, s: u64) -> Sum
     let u = 0x40_0000_0000_0000 / z;
     let p = square(2 * a);
     let q = square(2 * b);
-    let p_high = p.high;
-    let p_low = p.low;
-    let q_high = q.high;
-    let q_low = q.low;
-    let low = p_low + q_high % z * u + q_low / z;
+    let low = p.low + q.high % z * u + q.low / z;
     Sum {
-        high: p_high + q_high / z + low / 0x40_0000_0000_0000,
+        high: p.high + q.high / z + low / 0x40_0000_0000_0000,
         low: low % 0x40_0000_0000_0000,
-        lost: q_low % z,
+        lost: q.low % z,
     }
 }

@@ -7,14 +7,17 @@ use Prim.Native.Nat.{ℕ, zero, suc, ◌-◌, ◌<◌}
 use native.Mathlib.Omega.{arith}
 use lib.Dec.{ltb}
 use lib.ListN.{length, get_or, length-map}
-use lib.Ieee.{Float}
+use lib.Ieee.{Float, nan}
 use Rattle.places.specs.Lists.{without}
 use Rattle.places.specs.Ring.{places_below, prev_of, next_of, ear_of}
-use Rattle.places.specs.declared.Found.{Found}
-use Rattle.places.specs.declared.Found.TheVariants.{At, Nothing}
+use Rattle.std.specs.Prelude.{Option, Some, None}
 use Rattle.places.proofs.Lists.{map_at, each_head, each_tail, each_without}
 use Rattle.places.proofs.Rings.{prev_below, next_below, length_places, place_at, places_below_lem}
-use Rattle.flat.specs.Points.{Point, corners_of}
+use Rattle.std.specs.List.{flat_map}
+use Rattle.places.specs.Lists.{Each}
+use Rattle.places.specs.Stored.{joined}
+use Rattle.places.proofs.Stored.{length_threes, threes_at, threes_joined}
+use Rattle.flat.specs.Points.{Point, vertices_of, vertex_of, corners_of}
 use Rattle.flat.specs.Flat.{point_of, points_of}
 use Rattle.flat.specs.Steps.{Inside}
 use Rattle.flat.proofs.Corners.{length_corners, corner_at}
@@ -72,11 +75,11 @@ module _ (vs : List Point) (face : List ℕ) where
     rings_alike (suc more) ks w =
         rw (choice_alike ks w) (ap (tested (by_corner ks).tests) (go (by_corner ks).corner refl (rings_alike more)))
       where
-        go : (f : Found) → (by_corner ks).corner ≡ f
+        go : (f : Option ℕ) → (by_corner ks).corner ≡ f
             → ((js : List ℕ) → Within face js → cut_ring by_number more (ring_at face js) ≡ looked_up face (cut_ring by_corner more js))
             → cut_with f (ring_at face ks) (cut_ring by_number more) ≡ looked_up face (cut_with f ks (cut_ring by_corner more))
-        go Nothing e ih = refl
-        go (At k) e ih =
+        go None e ih = refl
+        go (Some k) e ih =
             let below = choice_below (corners_of vs face) axis dir ks k e in
             rw (ear_looked face k ks below, ← ring_without face k ks, ih (without k ks) (each_without k ks w))
 
@@ -138,11 +141,34 @@ by_place_left vs face h = none_of_none (cut_of vs face).left (cut_by_place vs fa
 places_inside : (vs : List Point) (face : List ℕ) → Inside (corners_of vs face) (places_below (length face))
 places_inside vs face = rw length_corners (places_within vs face)
 
-module _ {ps : List Point} {ks : List ℕ} {n : ℕ} (vs : List Point) (face : List ℕ) (p : ps ≡ corners_of vs face) (k : ks ≡ places_below n)
-    (many : n ≡ length face) where
-  pub copied_inside : Inside ps ks
-  copied_inside = rw (p, k, many) (places_inside vs face)
+-- the numbers of points, one point after the other, are read in threes as the points
+flat_joined : (ps : List Point) → flat_map (λ p. p) ps ≡ joined ps
+unfolding joined
+flat_joined [] = refl
+flat_joined (p ∷ ps) = rw (flat_joined ps)
 
-  pub copied_shown : {r : Counts} {out out' : List (List ℕ)} → Shown (cut_of ps ks) r out out' → Shown (cut_by_place vs face) r out out'
+vertex_long : (coords : List Float) (v : ℕ) → v < length (vertices_of coords) → length (vertex_of (vertices_of coords) v) ≡ 3
+vertex_long coords v h = ap length (threes_at coords v nan (omega (arith, length_threes coords)))
+
+corners_long : (coords : List Float) (face : List ℕ) → Inside (vertices_of coords) face
+    → Each [] (λ p. length p ≡ 3) (corners_of (vertices_of coords) face)
+corners_long coords face inside = record { holds = go }
+  where
+    go : (k : ℕ) → k < length (corners_of (vertices_of coords) face) → length (get_or (corners_of (vertices_of coords) face) k []) ≡ 3
+    go k h =
+        let g : k < length face = omega (arith, length_corners (vertices_of coords) face) in
+        rw (corner_at (vertices_of coords) face k g) (vertex_long coords (get_or face k 0) (inside.holds k g))
+
+module _ {points : List Point} {ps : List Float} {ks : List ℕ} (coords : List Float) (face : List ℕ)
+    (inside : Inside (vertices_of coords) face) (p : points ≡ corners_of (vertices_of coords) face)
+    (f : ps ≡ flat_map (λ p. p) points) (k : ks ≡ places_below (length face)) where
+  copied : vertices_of ps ≡ corners_of (vertices_of coords) face
+  copied = rw (f, flat_joined points, p) (threes_joined (corners_of (vertices_of coords) face) (corners_long coords face inside))
+
+  pub copied_inside : Inside (vertices_of ps) ks
+  copied_inside = rw (copied, k) (places_inside (vertices_of coords) face)
+
+  pub copied_shown : {r : Counts} {out out' : List (List ℕ)} → Shown (cut_of (vertices_of ps) ks) r out out'
+      → Shown (cut_by_place (vertices_of coords) face) r out out'
   unfolding cut_by_place
-  copied_shown s = rw (← p, ← many, ← k) s
+  copied_shown s = rw (← copied, ← k) s

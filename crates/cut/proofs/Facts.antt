@@ -13,8 +13,7 @@ use lib.Ieee.{Float}
 use lib.IntN.{ℤ, pos, neg_ℤ, ◌+ℤ◌, +ℤ_assoc, +ℤ_idl, +ℤ_idr}
 use Rattle.places.specs.Lists.{Each, without}
 use Rattle.places.specs.Ring.{sides, ear_of}
-use Rattle.places.specs.declared.Found.{Found}
-use Rattle.places.specs.declared.Found.TheVariants.{At, Nothing}
+use Rattle.std.specs.Prelude.{Option, Some, None}
 use Rattle.places.proofs.Lists.{length_without, each_nil, each_cons, each_without}
 use Rattle.places.proofs.Rings.{each_ear}
 use Rattle.exact.specs.Sides.{all_sides}
@@ -37,28 +36,28 @@ use Rattle.next_corner.proofs.NextCorner.{choose_below, choose_none, choose_test
 pub record Kept (choose : List ℕ → Choice) (P : List ℕ → Cut → Type 0) : Type 0 where
   pub small : (r : List ℕ) → length r < 3 → P r nothing
   pub three : (r : List ℕ) → length r ≡ 3 → P r (record { triangles = r ∷ []; left = []; tests = 0 })
-  pub stop : (r : List ℕ) → 4 ≤ length r → (choose r).corner ≡ Nothing
+  pub stop : (r : List ℕ) → 4 ≤ length r → (choose r).corner ≡ None
       → P r (tested (choose r).tests (record { triangles = []; left = r; tests = 0 }))
   pub clip : (k : ℕ) (r : List ℕ) (c : Cut) → 4 ≤ length r → k < length r → P (without k r) c
       → P r (tested (choose r).tests (clipped k r c))
 
-module _ (choose : List ℕ → Choice) (P : List ℕ → Cut → Type 0) (below : (r : List ℕ) (k : ℕ) → (choose r).corner ≡ At k → k < length r)
+module _ (choose : List ℕ → Choice) (P : List ℕ → Cut → Type 0) (below : (r : List ℕ) (k : ℕ) → (choose r).corner ≡ Some k → k < length r)
     (p : Kept choose P) where
   ring_all : (more : ℕ) (r : List ℕ) → length r ≡ more + 3 → P r (cut_ring choose more r)
   unfolding cut_ring
   ring_all zero r h = p.three r (omega arith)
   ring_all (suc more) r h = go (choose r).corner refl (ring_all more)
     where
-      go : (f : Found) → (choose r).corner ≡ f → ((s : List ℕ) → length s ≡ more + 3 → P s (cut_ring choose more s))
+      go : (f : Option ℕ) → (choose r).corner ≡ f → ((s : List ℕ) → length s ≡ more + 3 → P s (cut_ring choose more s))
           → P r (tested (choose r).tests (cut_with f r (cut_ring choose more)))
-      go Nothing e ih = p.stop r (omega arith) e
-      go (At k) e ih =
+      go None e ih = p.stop r (omega arith) e
+      go (Some k) e ih =
           let l : k < length r = below r k e in
           p.clip k r (cut_ring choose more (without k r)) (omega arith) l (ih (without k r) (omega (arith, length_without k r l)))
 
 -- a corner that is chosen is one of the ring, and at most two tests a corner are made to choose it
 module _ (vs : List Point) (axis : ℕ) (dir : Float) (r : List ℕ) where
-  pub choice_below : (k : ℕ) → (next_corner_of vs axis dir r).corner ≡ At k → k < length r
+  pub choice_below : (k : ℕ) → (next_corner_of vs axis dir r).corner ≡ Some k → k < length r
   unfolding next_corner_of points_of
   choice_below k e = omega (arith, choose_below (points_of vs axis r) dir k e, length-map r (point_of vs axis))
 
@@ -85,7 +84,7 @@ module _ (vs : List Point) (face : List ℕ) where
 pub data Ends (choose : List ℕ → Choice) (r : List ℕ) (c : Cut) : Type 0 where
   few : length r < 3 → c.triangles ≡ [] → c.left ≡ [] → Ends choose r c
   full : c.left ≡ [] → length c.triangles + 2 ≡ length r → Ends choose r c
-  short : 4 ≤ length c.left → (choose c.left).corner ≡ Nothing → length c.triangles + length c.left ≡ length r → Ends choose r c
+  short : 4 ≤ length c.left → (choose c.left).corner ≡ None → length c.triangles + length c.left ≡ length r → Ends choose r c
 
 pub cut_ends : (vs : List Point) (face : List ℕ) → Ends (choice vs face) face (cut_of vs face)
 cut_ends vs face = cut_all vs face (Ends (choice vs face)) (record {
@@ -162,7 +161,7 @@ cut_alike vs face = record {
 }
 
 -- ---- where a ring is left no corner of it turns the way of the face
-pub stuck_turns : (vs : List Point) (face ring : List ℕ) → (choice vs face ring).corner ≡ Nothing → (k : ℕ) → k < length ring
+pub stuck_turns : (vs : List Point) (face ring : List ℕ) → (choice vs face ring).corner ≡ None → (k : ℕ) → k < length ring
     → turns_at (points_of vs (axis_for vs face) ring) (direction_for vs face) k ≡ false
 unfolding next_corner_of points_of
 stuck_turns vs face ring e k h =

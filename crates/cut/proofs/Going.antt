@@ -12,7 +12,7 @@ use lib.Ieee.{Float}
 use Rattle.places.specs.Lists.{Each, without}
 use Rattle.places.specs.Steps.{removed}
 use Rattle.places.specs.Ring.{ear_of}
-use Rattle.places.specs.declared.Found.TheVariants.{At, Nothing}
+use Rattle.std.specs.Prelude.{Some, None}
 use Rattle.places.proofs.Lists.{take_removed, take_three, map_at, map_without, sets_front, each_append, each_without, each_slice}
 use Rattle.next_corner.specs.NextCorner.{find_corner, direction_of}
 use Rattle.flat.specs.Points.{Point, corners_of}
@@ -32,11 +32,11 @@ module _ (choose : List ℕ → Choice) (m : ℕ) (ring : List ℕ) where
       let g : m - 3 ≡ suc (m - 1 - 3) = omega arith in
       rw g
 
-  cut_none : 3 < m → (choose ring).corner ≡ Nothing
+  cut_none : 3 < m → (choose ring).corner ≡ None
       → cut_ring choose (m - 3) ring ≡ tested (choose ring).tests (record { triangles = []; left = ring; tests = 0 })
   cut_none h e = cut_more h ∙ rw e
 
-  cut_some : (k : ℕ) → 3 < m → (choose ring).corner ≡ At k
+  cut_some : (k : ℕ) → 3 < m → (choose ring).corner ≡ Some k
       → cut_ring choose (m - 3) ring ≡ tested (choose ring).tests (clipped k ring (cut_ring choose (m - 1 - 3) (without k ring)))
   cut_some k h e = cut_more h ∙ rw e
 
@@ -178,7 +178,7 @@ module _ {vs : List Point} {face : List ℕ} {axis : ℕ} {dir : Float} {whole :
   }
 
   -- no corner can be cut: stop
-  pub stop : 3 < m → (find_corner (take m ps) dir).corner ≡ Nothing
+  pub stop : 3 < m → (find_corner (take m ps) dir).corner ≡ None
       → Shown whole (record { triangles = t; left = m; tests = tests + (find_corner (take m ps) dir).tests }) out₀ out
   stop h e =
       let q = cut_none (next_corner_of vs axis dir) m ring h (ap (λ c. c.corner) chosen ∙ e) in
@@ -197,7 +197,7 @@ module _ {vs : List Point} {face : List ℕ} {axis : ℕ} {dir : Float} {whole :
       (o ∙ rw (← ring_three face ks (omega (arith, g.high, g.many)), ← e) (rw q at g.written))
 
   -- a step
-  pub again : (k : ℕ) (ks' : List ℕ) (ps' : List Point) (out' : List (List ℕ)) → 3 < m → (find_corner (take m ps) dir).corner ≡ At k
+  pub again : (k : ℕ) (ks' : List ℕ) (ps' : List Point) (out' : List (List ℕ)) → 3 < m → (find_corner (take m ps) dir).corner ≡ Some k
       → ks' ≡ removed k (take m ks) → ps' ≡ removed k (take m ps) → out' ≡ set out t (ear_of k ring)
       → length ks' ≡ length (take m ks) → length ps' ≡ length (take m ps) → length out' ≡ length out
       → Going vs face axis dir whole out₀ (ks' ++ drop m ks) (ps' ++ drop m ps) out' (m - 1) (t + 1)

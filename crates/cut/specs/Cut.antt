@@ -1,11 +1,9 @@
 -- The cut of a face: its triangles in order, the ring that is left, and how many turn tests were made. A ring is a list of vertex numbers,
 -- and so are its triangles; a corner's point is looked up.
 -- What the code's contracts cite, what the worked rows compute and what demand 3 speaks of is `cut_of`, and by place `cut_by_place`.
-use Rattle.std.specs.Prelude.{cond, ℕ, zero, suc, ◌+◌, ◌-◌, ◌≡◌, List, [], ◌∷◌, map, length, get_or, ltb, Float}
+use Rattle.std.specs.Prelude.{cond, ℕ, zero, suc, ◌+◌, ◌-◌, ◌≡◌, List, [], ◌∷◌, map, length, get_or, ltb, Float, Option, Some, None}
 use Rattle.places.specs.Lists.{without}
 use Rattle.places.specs.Ring.{places_below, ear_of}
-use Rattle.places.specs.declared.Found.{Found}
-use Rattle.places.specs.declared.Found.TheVariants.{At, Nothing}
 use Rattle.flat.specs.Points.{Point, corners_of}
 use Rattle.flat.specs.Flat.{newell_of, axis_of, points_of}
 use Rattle.next_corner.specs.NextCorner.{direction_of, find_corner}
@@ -28,9 +26,9 @@ abbrev pub clipped : ℕ → List ℕ → Cut → Cut
 clipped k ring rest = record { triangles = ear_of k ring ∷ rest.triangles; left = rest.left; tests = rest.tests }
 
 -- no corner is chosen: stop; corner k is: its triangle, and then what the ring without it gives
-abbrev pub cut_with : Found → List ℕ → (List ℕ → Cut) → Cut
-cut_with Nothing ring go = record { triangles = []; left = ring; tests = 0 }
-cut_with (At k) ring go = clipped k ring (go (without k ring))
+abbrev pub cut_with : Option ℕ → List ℕ → (List ℕ → Cut) → Cut
+cut_with None ring go = record { triangles = []; left = ring; tests = 0 }
+cut_with (Some k) ring go = clipped k ring (go (without k ring))
 
 -- n tests, and then those of the cut
 abbrev pub tested : ℕ → Cut → Cut

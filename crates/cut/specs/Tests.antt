@@ -1,8 +1,7 @@
 -- Request 10, 'How long can one face take?': what is proved of the tests that a cut counts, and that counting them changed no triangle.
-use Rattle.std.specs.Prelude.{◌≡◌, cond, List, [], ◌∷◌, ℕ, zero, suc, ◌+◌, ◌-◌, ◌*◌, ◌≤◌, ltb, length, Float}
+use Rattle.std.specs.Prelude.{◌≡◌, cond, List, [], ◌∷◌, ℕ, zero, suc, ◌+◌, ◌-◌, ◌*◌, ◌≤◌, ltb, length, Float, Some, None}
 use Rattle.places.specs.Lists.{without}
 use Rattle.places.specs.Ring.{ear_of}
-use Rattle.places.specs.declared.Found.TheVariants.{At, Nothing}
 use Rattle.flat.specs.Points.{Point}
 use Rattle.flat.specs.Flat.{points_of}
 use Rattle.next_corner.specs.NextCorner.{find_ear, find_turn, or_else}
@@ -30,9 +29,9 @@ pub record AsBefore : Type 0 where
   -- by whatever choice: a ring of 3 is a triangle; where no corner is chosen the ring is left; and a corner that is chosen gives its
   -- triangle, before what the ring without it gives
   pub three : (choose : List ℕ → Choice) (ring : List ℕ) → without_tests (cut_ring choose zero ring) ≡ (ring ∷ [], [])
-  pub none : (choose : List ℕ → Choice) (more : ℕ) (ring : List ℕ) → (choose ring).corner ≡ Nothing
+  pub none : (choose : List ℕ → Choice) (more : ℕ) (ring : List ℕ) → (choose ring).corner ≡ None
       → without_tests (cut_ring choose (suc more) ring) ≡ ([], ring)
-  pub some : (choose : List ℕ → Choice) (more k : ℕ) (ring : List ℕ) → (choose ring).corner ≡ At k →
+  pub some : (choose : List ℕ → Choice) (more k : ℕ) (ring : List ℕ) → (choose ring).corner ≡ Some k →
       let rest = without_tests (cut_ring choose more (without k ring)) in
       without_tests (cut_ring choose (suc more) ring) ≡ (ear_of k ring ∷ rest.0, rest.1)
   -- a face under 3 corners gives nothing; any other is its own first ring, cut in its own plane and direction

@@ -14,7 +14,7 @@ ghost use Rattle.cut.specs.Cut.{cut_in, cut_of, ring_at};
 ghost use Rattle.cut.specs.Steps.{triangle_at, Within, InOrder, Shown};
 
 // How many triangles a cut gave, how many corners of the ring it left (none where it came to its end), and how many turn tests were made.
-#[derive(Drop)]
+#[derive(Clone, Copy)]
 pub struct Counts {
     pub triangles: usize,
     pub left: usize,
@@ -35,37 +35,12 @@ fn counted(triangles: usize, left: usize, tests: usize) -> Counts
 // While a face is cut, the ring is kept as places of the face (ks) beside the points of its corners (ps). A place takes 16 bits, since a
 // face has at most 2,048 corners; nothing that is known here bounds the numbers of its vertices so.
 
-// What stands at place k goes, and what comes after it moves one place left.
-fn remove_place(ks: &mut [u16], k: usize)
-    requires { k < length ks.old }
-    ensures { ks.new ≡ removed k ks.old }
-{
-    let last = ks.len() - 1;
-    let mut j = k;
-    while j < last {
-        ks[j] = ks[j + 1];
-        j += 1;
-    }
-}
-
-fn remove_point(ps: &mut [[f64; 2]], k: usize)
-    requires { k < length ps.old }
-    ensures { ps.new ≡ removed k ps.old }
-{
-    let last = ps.len() - 1;
-    let mut j = k;
-    while j < last {
-        ps[j] = ps[j + 1];
-        j += 1;
-    }
-}
-
 // The corner at place i of the ring, and the triangle of those at three places.
 fn corner_at(face: &[u32], ks: &[u16], i: usize) -> u32
     requires { Within face.now ks.now × (i < length ks.now) }
     ensures { result ≡ get_or (ring_at face.now ks.now) i 0 }
 {
-    face[ks[i] as usize]
+    face[usize::from(ks[i])]
 }
 
 fn triangle_at(face: &[u32], ks: &[u16], i: usize, k: usize, j: usize) -> [u32; 3]
@@ -80,7 +55,7 @@ fn triangle_at(face: &[u32], ks: &[u16], i: usize, k: usize, j: usize) -> [u32; 
     ]
 }
 
-// The triangle at place k of the ring is written to place t, and the corner goes from both lists.
+// The triangle at place k of the ring is written to place t, and the corner goes from both lists: what comes after it moves one place left.
 fn cut_at(
     face: &[u32],
     ks: &mut [u16],
@@ -100,8 +75,8 @@ fn cut_at(
     let j = places::next(k, n);
     let ear = triangle_at(face, ks, i, k, j);
     out[t] = ear;
-    remove_place(ks, k);
-    remove_point(ps, k);
+    ks.copy_within(k + 1.., k);
+    ps.copy_within(k + 1.., k);
 }
 
 // The places of a face in order, and the points of its corners, are laid down in lists of their own.
@@ -109,11 +84,8 @@ fn fill_places(ks: &mut [u16])
     requires { length ks.old ≤ most_corners }
     ensures { InOrder ks.new }
 {
-    let n = ks.len();
-    let mut i = 0;
-    while i < n {
-        ks[i] = i as u16;
-        i += 1;
+    for (i, k) in ks.iter_mut().enumerate() {
+        *k = i as u16;
     }
 }
 
@@ -122,12 +94,8 @@ fn fill_points(coords: &[f64], face: &[u32], axis: usize, ps: &mut [[f64; 2]])
     requires ps_len { length ps.old ≡ length face.now }
     ensures { ps.new ≡ points_of (vertices_of coords.now) axis face.now }
 {
-    let n = face.len();
-    let mut i = 0;
-    while i < n {
-        let p = flat::space::point_at(coords, face, axis, i);
-        ps[i] = p;
-        i += 1;
+    for (i, p) in ps.iter_mut().enumerate() {
+        *p = flat::space::point_at(coords, face, axis, i);
     }
 }
 
@@ -148,23 +116,19 @@ fn cut_ring(
     fill_places(ks);
     fill_points(coords, face, axis, ps);
     let dir = next_corner::direction(ps);
-    let mut m = face.len();
-    let mut t = 0;
+    let n = face.len();
     let mut tests = 0;
-    while m > 3 {
+    for t in 0..n - 3 {
+        let m = n - t;
         let c = next_corner::find_corner(&ps[..m], dir);
         tests += c.tests;
-        let chosen = c.corner;
-        let places::Found::At(k) = chosen else {
+        let Some(k) = c.corner else {
             return counted(t, m, tests);
         };
         cut_at(face, &mut ks[..m], &mut ps[..m], k, out, t);
-        m -= 1;
-        t += 1;
     }
-    let last = triangle_at(face, ks, 0, 1, 2);
-    out[t] = last;
-    counted(t + 1, 0, tests)
+    out[n - 3] = triangle_at(face, ks, 0, 1, 2);
+    counted(n - 2, 0, tests)
 }
 
 // A face is cut in two lists that are lent for it.
@@ -184,38 +148,17 @@ fn cut_in(
     cut_ring(coords, face, axis, ks, ps, out)
 }
 
-// The same with lists of its own. One function a size: a small face does not clear the lists of a large one, and the stack holds those of
-// one size at a time.
-fn cut_16(coords: &[f64], face: &[u32], out: &mut [[u32; 3]]) -> Counts
+// The same with lists of its own, of N places. Each size is a function: a small face does not clear the lists of a large one, and the
+// stack holds those of one size at a time.
+fn cut_sized<const N: usize>(coords: &[f64], face: &[u32], out: &mut [[u32; 3]]) -> Counts
     requires inside { Inside (vertices_of coords.now) face.now }
-    requires in_bounds { (3 ≤ length face.now) × (length face.now ≤ 16) × (length face.now - 2 ≤ length out.old) }
+    requires n_bound { (length face.now ≤ N) × (N ≤ most_corners) }
+    requires in_bounds { (3 ≤ length face.now) × (length face.now - 2 ≤ length out.old) }
     ensures { Shown (cut_of (vertices_of coords.now) face.now) result out.old out.new }
 {
     let n = face.len();
-    let mut ks = [0u16; 16];
-    let mut ps = [[0.0f64; 2]; 16];
-    cut_in(coords, face, &mut ks[..n], &mut ps[..n], out)
-}
-
-fn cut_128(coords: &[f64], face: &[u32], out: &mut [[u32; 3]]) -> Counts
-    requires inside { Inside (vertices_of coords.now) face.now }
-    requires in_bounds { (3 ≤ length face.now) × (length face.now ≤ 128) × (length face.now - 2 ≤ length out.old) }
-    ensures { Shown (cut_of (vertices_of coords.now) face.now) result out.old out.new }
-{
-    let n = face.len();
-    let mut ks = [0u16; 128];
-    let mut ps = [[0.0f64; 2]; 128];
-    cut_in(coords, face, &mut ks[..n], &mut ps[..n], out)
-}
-
-fn cut_2048(coords: &[f64], face: &[u32], out: &mut [[u32; 3]]) -> Counts
-    requires inside { Inside (vertices_of coords.now) face.now }
-    requires in_bounds { (3 ≤ length face.now) × (length face.now ≤ most_corners) × (length face.now - 2 ≤ length out.old) }
-    ensures { Shown (cut_of (vertices_of coords.now) face.now) result out.old out.new }
-{
-    let n = face.len();
-    let mut ks = [0u16; places::limits::MOST_CORNERS];
-    let mut ps = [[0.0f64; 2]; places::limits::MOST_CORNERS];
+    let mut ks = [0u16; N];
+    let mut ps = [[0.0f64; 2]; N];
     cut_in(coords, face, &mut ks[..n], &mut ps[..n], out)
 }
 
@@ -231,10 +174,10 @@ pub fn cut(coords: &[f64], face: &[u32], out: &mut [[u32; 3]]) -> Counts
         return counted(0, 0, 0);
     }
     if n <= 16 {
-        return cut_16(coords, face, out);
+        return cut_sized::<16>(coords, face, out);
     }
     if n <= 128 {
-        return cut_128(coords, face, out);
+        return cut_sized::<128>(coords, face, out);
     }
-    cut_2048(coords, face, out)
+    cut_sized::<{ places::limits::MOST_CORNERS }>(coords, face, out)
 }

@@ -9,7 +9,7 @@ use lib.Ieee.{Float}
 use lib.IntN.{ℤ, ◌+ℤ◌, +ℤ_idr}
 use Rattle.places.specs.Lists.{Each}
 use Rattle.places.specs.Ring.{sides}
-use Rattle.places.specs.declared.Found.TheVariants.{Nothing}
+use Rattle.std.specs.Prelude.{None}
 use Rattle.places.proofs.Lists.{each_nil, each_append, each_head, each_tail}
 use Rattle.exact.specs.Sides.{all_sides}
 use Rattle.exact.proofs.Poly.{var, ◌⊕◌, ring}
@@ -32,7 +32,7 @@ module _ (vs : List Point) (face : List ℕ) where
   abbrev Ending : Type 0
   Ending = Ends (choice vs face) face (cut_of vs face)
 
-  stuck : 4 ≤ length (cut_of vs face).left → (choice vs face (cut_of vs face).left).corner ≡ Nothing → Stuck vs face (cut_of vs face).left
+  stuck : 4 ≤ length (cut_of vs face).left → (choice vs face (cut_of vs face).left).corner ≡ None → Stuck vs face (cut_of vs face).left
   stuck a b = record { four = a; none = stuck_turns vs face (cut_of vs face).left b }
 
   end_full : Ending → 3 ≤ length face → (length (cut_of vs face).triangles + 2 ≡ length face) ↔ (¬ Stuck vs face (cut_of vs face).left)

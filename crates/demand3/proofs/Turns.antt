@@ -12,8 +12,7 @@ use lib.Ieee.{Float, nan, binary64, neg, lt, le, is_nan}
 use Rattle.places.specs.Loops.{first_from}
 use Rattle.places.specs.Lists.{without}
 use Rattle.places.specs.Ring.{before, after, prev_of, next_of}
-use Rattle.places.specs.declared.Found.{Found}
-use Rattle.places.specs.declared.Found.TheVariants.{At, Nothing}
+use Rattle.std.specs.Prelude.{Option, Some, None}
 use Rattle.places.proofs.Lists.{map_at, each_without, each_slice}
 use Rattle.places.proofs.Rings.{prev_below, next_below}
 use Rattle.places.proofs.Stored.{length_threes, threes_at}
@@ -85,10 +84,10 @@ ring_same vs p q same zero ring inside = refl
 ring_same vs p q same (suc more) ring inside =
     rw (same ring inside) (ap (tested (q ring).tests) (go (q ring).corner (ring_same vs p q same more)))
   where
-    go : (f : Found) → ((r : List ℕ) → Inside vs r → cut_ring p more r ≡ cut_ring q more r)
+    go : (f : Option ℕ) → ((r : List ℕ) → Inside vs r → cut_ring p more r ≡ cut_ring q more r)
         → cut_with f ring (cut_ring p more) ≡ cut_with f ring (cut_ring q more)
-    go Nothing ih = refl
-    go (At k) ih = ap (clipped k ring) (ih (without k ring) (each_without k ring inside))
+    go None ih = refl
+    go (Some k) ih = ap (clipped k ring) (ih (without k ring) (each_without k ring inside))
 
 module _ (coords : List Float) (t : number_refused coords ≡ false) where
   abbrev vs : List Point
@@ -149,7 +148,7 @@ module _ (coords : List Float) (t : number_refused coords ≡ false) where
     choose_same : rust_find_corner ps dir ≡ find_corner ps dir
     unfolding rust_find_corner find_corner find_ear
     choose_same =
-        ap (λ (f : Found). choice_by (length ps) f (find_turn ps dir))
+        ap (λ (f : Option ℕ). choice_by (length ps) f (find_turn ps dir))
         (first_same (rust_ear_at ps dir) (ear_at ps dir) (length ps) 0 (λ k a b. ear_same k (omega arith)))
 
   -- ---- the cut of a face

@@ -1,11 +1,9 @@
 -- Which corner of a ring is cut off next. `ps` are the points of the ring's corners in the plane, in order;
 -- `dir` is the direction, +1 or −1.
-use Rattle.std.specs.Prelude.{ℕ, ◌+◌, Bool, false, not, ◌&&◌, cond, List, [], length, get_or, Float}
+use Rattle.std.specs.Prelude.{ℕ, ◌+◌, Bool, false, not, ◌&&◌, cond, List, [], length, get_or, Float, Option, Some, None}
 use Rattle.std.specs.Float.Ieee.{neg, lt, le, eq}
 use Rattle.places.specs.Loops.{any_of, first_place}
 use Rattle.places.specs.Ring.{before, after}
-use Rattle.places.specs.declared.Found.{Found}
-use Rattle.places.specs.declared.Found.TheVariants.{At, Nothing}
 use Rattle.floats.specs.F64.{◌*f◌, zero64, one64}
 use Rattle.flat.specs.Points.{Point, at}
 use Rattle.flat.specs.Flat.{cross2_of, summed_area_of}
@@ -48,30 +46,30 @@ ear_at ps dir k =
     cond (turns_at ps dir k) (not blocked) false
 
 -- ---- the next corner: corners are tried in order from place 0
-unfoldable pub find_ear : List Point → Float → Found
+unfoldable pub find_ear : List Point → Float → Option ℕ
 find_ear ps dir = first_place (ear_at ps dir) (length ps)
 
 -- failing that, the first corner with turn × direction ≥ 0
-unfoldable pub find_turn : List Point → Float → Found
+unfoldable pub find_turn : List Point → Float → Option ℕ
 find_turn ps dir = first_place (turns_at ps dir) (length ps)
 
-abbrev pub or_else : Found → Found → Found
-or_else (At k) g = At k
-or_else Nothing g = g
+abbrev pub or_else : Option ℕ → Option ℕ → Option ℕ
+or_else (Some k) g = Some k
+or_else None g = g
 
 -- ---- the choice: the corner that is cut off, if there is one, and how many turn tests were made, one for each corner that a pass tries
 -- of a ring of m corners a pass tries each up to and including the one that it takes, and all m where it takes none
-abbrev pub tried_of : ℕ → Found → ℕ
-tried_of m (At k) = k + 1
-tried_of m Nothing = m
+abbrev pub tried_of : ℕ → Option ℕ → ℕ
+tried_of m (Some k) = k + 1
+tried_of m None = m
 
 -- both passes are counted, and the second is made where the first takes none
-abbrev pub tests_of : ℕ → Found → Found → ℕ
-tests_of m (At k) turn = tried_of m (At k)
-tests_of m Nothing turn = tried_of m Nothing + tried_of m turn
+abbrev pub tests_of : ℕ → Option ℕ → Option ℕ → ℕ
+tests_of m (Some k) turn = tried_of m (Some k)
+tests_of m None turn = tried_of m None + tried_of m turn
 
 -- the choice at a ring of m corners, by what the two passes take
-abbrev pub choice_by : ℕ → Found → Found → Choice
+abbrev pub choice_by : ℕ → Option ℕ → Option ℕ → Choice
 choice_by m ear turn = record { corner = or_else ear turn; tests = tests_of m ear turn }
 
 -- the choice at a ring: the first ear, failing that the first corner that turns, failing that none

@@ -8,9 +8,9 @@ ghost use Rattle.next_corner.specs.NextCorner.{direction_of, turns_of, same_of, 
 ghost use Rattle.next_corner.specs.NextCorner.{turns_at, ear_at, find_ear, find_turn, tried_of, find_corner};
 
 // The corner that is cut off next, if any, and how many turn tests were made: how often turn × direction was tested at a corner.
-#[derive(Drop)]
+#[derive(Clone, Copy)]
 pub struct Choice {
-    pub corner: places::Found,
+    pub corner: Option<usize>,
     pub tests: usize,
 }
 
@@ -20,16 +20,13 @@ fn summed_area(ps: &[[f64; 2]]) -> f64
 {
     let n = ps.len();
     let mut s = 0.0;
-    let mut i = 0;
-    while i < n {
-        let a = places::point(ps, i);
-        let b = places::point(ps, places::next(i, n));
-        s = flat::area_side(a, b, s);
-        i += 1;
+    for (i, &a) in ps.iter().enumerate() {
+        s = flat::area_side(a, ps[places::next(i, n)], s);
     }
     s
 }
 
+#[tactic(auto, unfolding(crate::specs::NextCorner::direction_of))]
 pub fn direction(ps: &[[f64; 2]]) -> f64
     ensures { result ≡ direction_of ps.now }
 {
@@ -37,122 +34,88 @@ pub fn direction(ps: &[[f64; 2]]) -> f64
 }
 
 // Whether the corner b between a and c turns the way of dir, or not at all.
+#[tactic(auto, unfolding(crate::specs::NextCorner::turns_of))]
 fn turns(a: [f64; 2], b: [f64; 2], c: [f64; 2], dir: f64) -> bool
     ensures { result ≡ turns_of a b c dir }
 {
     flat::cross2(a, b, c) * dir >= 0.0
 }
 
+#[tactic(auto, unfolding(crate::specs::NextCorner::same_of))]
 fn same2(p: [f64; 2], q: [f64; 2]) -> bool
     ensures { result ≡ same_of p q }
 {
-    if p[0] == q[0] { p[1] == q[1] } else { false }
+    p[0] == q[0] && p[1] == q[1]
 }
 
+#[tactic(auto, unfolding(crate::specs::NextCorner::strictly_in))]
 fn strictly_in(a: [f64; 2], b: [f64; 2], c: [f64; 2], dir: f64, p: [f64; 2]) -> bool
     ensures { result ≡ strictly_in a b c dir p }
 {
-    if flat::cross2(a, b, p) * dir > 0.0 {
-        if flat::cross2(b, c, p) * dir > 0.0 {
-            return flat::cross2(c, a, p) * dir > 0.0;
-        }
-    }
-    false
+    flat::cross2(a, b, p) * dir > 0.0
+        && flat::cross2(b, c, p) * dir > 0.0
+        && flat::cross2(c, a, p) * dir > 0.0
 }
 
 // Whether p is in the way of the triangle a, b, c.
+#[tactic(auto, unfolding(crate::specs::NextCorner::blocks_of))]
 fn blocks(a: [f64; 2], b: [f64; 2], c: [f64; 2], dir: f64, p: [f64; 2]) -> bool
     ensures { result ≡ blocks_of a b c dir p }
 {
-    if same2(p, a) {
-        return false;
-    }
-    if same2(p, b) {
-        return false;
-    }
-    if same2(p, c) {
-        return false;
-    }
-    strictly_in(a, b, c, dir, p)
+    !same2(p, a) && !same2(p, b) && !same2(p, c) && strictly_in(a, b, c, dir, p)
 }
 
 fn blocked(ps: &[[f64; 2]], a: [f64; 2], b: [f64; 2], c: [f64; 2], dir: f64) -> bool
     ensures { result ≡ blocked_of ps.now a b c dir }
 {
-    let n = ps.len();
-    let mut i = 0;
-    while i < n {
-        if blocks(a, b, c, dir, places::point(ps, i)) {
-            return true;
-        }
-        i += 1;
-    }
-    false
+    ps.iter().any(|&p| blocks(a, b, c, dir, p))
 }
 
 // Whether the corner at place k turns the right way, and whether it is an ear.
+#[tactic(auto, unfolding(crate::specs::NextCorner::turns_at))]
 fn turns_at(ps: &[[f64; 2]], k: usize, dir: f64) -> bool
     requires { k < length ps.now }
     ensures { result ≡ turns_at ps.now dir k }
 {
     let n = ps.len();
-    let a = places::point(ps, places::prev(k, n));
-    let b = places::point(ps, k);
-    let c = places::point(ps, places::next(k, n));
+    let a = ps[places::prev(k, n)];
+    let b = ps[k];
+    let c = ps[places::next(k, n)];
     turns(a, b, c, dir)
 }
 
+#[tactic(auto, unfolding(crate::specs::NextCorner::ear_at, crate::specs::NextCorner::turns_at))]
 fn ear_at(ps: &[[f64; 2]], k: usize, dir: f64) -> bool
     requires { k < length ps.now }
     ensures { result ≡ ear_at ps.now dir k }
 {
     let n = ps.len();
-    let a = places::point(ps, places::prev(k, n));
-    let b = places::point(ps, k);
-    let c = places::point(ps, places::next(k, n));
-    if turns(a, b, c, dir) {
-        !blocked(ps, a, b, c, dir)
-    } else {
-        false
-    }
+    let a = ps[places::prev(k, n)];
+    let b = ps[k];
+    let c = ps[places::next(k, n)];
+    turns(a, b, c, dir) && !blocked(ps, a, b, c, dir)
 }
 
-fn find_ear(ps: &[[f64; 2]], dir: f64) -> places::Found
+fn find_ear(ps: &[[f64; 2]], dir: f64) -> Option<usize>
     ensures { result ≡ find_ear ps.now dir }
 {
-    let n = ps.len();
-    let mut k = 0;
-    while k < n {
-        if ear_at(ps, k, dir) {
-            return places::Found::At(k);
-        }
-        k += 1;
-    }
-    places::Found::Nothing
+    (0..ps.len()).find(|&k| ear_at(ps, k, dir))
 }
 
-fn find_turn(ps: &[[f64; 2]], dir: f64) -> places::Found
+fn find_turn(ps: &[[f64; 2]], dir: f64) -> Option<usize>
     ensures { result ≡ find_turn ps.now dir }
 {
-    let n = ps.len();
-    let mut k = 0;
-    while k < n {
-        if turns_at(ps, k, dir) {
-            return places::Found::At(k);
-        }
-        k += 1;
-    }
-    places::Found::Nothing
+    (0..ps.len()).find(|&k| turns_at(ps, k, dir))
 }
 
 // How many of n corners a pass tries: each up to and including the one that it takes, and all where it takes none.
-fn tried(n: usize, taken: places::Found) -> usize
+fn tried(n: usize, taken: Option<usize>) -> usize
     requires { tried_of n taken ≤ n }
     ensures { result ≡ tried_of n taken }
 {
     match taken {
-        places::Found::At(k) => k + 1,
-        places::Found::Nothing => n,
+        Some(k) => k + 1,
+        None => n,
     }
 }
 
@@ -164,9 +127,9 @@ pub fn find_corner(ps: &[[f64; 2]], dir: f64) -> Choice
     let n = ps.len();
     let ear = find_ear(ps, dir);
     let first = tried(n, ear);
-    if let places::Found::At(k) = ear {
+    if let Some(k) = ear {
         return Choice {
-            corner: places::Found::At(k),
+            corner: Some(k),
             tests: first,
         };
     }

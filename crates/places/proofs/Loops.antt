@@ -4,17 +4,16 @@ use mathlib.Core.Path.{◌≡◌, refl, sym, ◌∙◌}
 use mathlib.Core.Logic.{⊎_elim}
 use mathlib.Core.Bool.{Bool, true, false, ◌||◌, cond}
 use mathlib.Core.List.{List, [], ◌∷◌, ◌++◌}
-use Prim.Native.Nat.{ℕ, zero, suc, ◌+◌, ◌-◌, ◌<◌, ◌≤◌, zero-le}
-use native.Mathlib.Nat.{sub-zero, zero-add, add-zero, add_assoc, eq-or-lt_of_le}
+use Prim.Native.Nat.{ℕ, zero, suc, ◌+◌, ◌<◌, ◌≤◌, zero-le}
+use native.Mathlib.Nat.{zero-add, add-zero, add_assoc, eq-or-lt_of_le}
 use native.Mathlib.Omega.{arith}
 use native.Mathlib.Numerals.{add-one}
 use lib.ListN.{length, get_or, drop, drop_of_length-le}
 use lib.Seq.{drop-cons}
-use Rattle.places.specs.Loops.{one_if, fold_list, any_of, count_of, first_from}
+use Rattle.places.specs.Loops.{one_if, fold_list, any_of, count_of, first_from, first_place}
 use Rattle.places.specs.Ring.{sides, fold_pairs, next_of}
-use Rattle.places.specs.declared.Found.{Found}
-use Rattle.places.specs.declared.Found.TheVariants.{At, Nothing}
-use Rattle.places.proofs.Folding.{left_suc, left_none}
+use Rattle.std.specs.Prelude.{Option, Some, None, option_map}
+use Rattle.std.specs.List.{find, list_any, range_with_len}
 use Rattle.places.proofs.Rings.{length_sides, side_at}
 
 -- a yes counts at most once
@@ -131,45 +130,48 @@ module _ {A : Type 0} {test : A → Bool} {l : List A} {whole : ℕ} where
   unfolding count_of
   count_end {i} {n} p h = sym (add-zero n) ∙ sym (rw (drop_of_length-le l h)) ∙ p.so
 
--- ---- a loop that looks for the first place
-pub record Seeking (test : ℕ → Bool) (n : ℕ) (whole : Found) (i : ℕ) : Type 0 where
-  pub within : i ≤ n
-  pub so : first_from test (n - i) i ≡ whole
+-- ---- what std's methods answer, in the words of these definitions
+-- `any` over a list
+pub any_is : {A : Type 0} (test : A → Bool) (l : List A) → list_any test l ≡ any_of test l
+unfolding any_of
+any_is test [] = refl
+any_is test (x ∷ xs) = rw (any_is test xs) (either (test x))
+  where
+    either : (b : Bool) → (b || any_of test xs) ≡ cond b true (any_of test xs)
+    either true = refl
+    either false = refl
 
-module _ {test : ℕ → Bool} {n : ℕ} {whole : Found} where
-  pub seek_start : first_from test n 0 ≡ whole → Seeking test n whole 0
-  seek_start e = record { within = zero-le; so = rw sub-zero e }
+-- `find` over the places below n
+find_from : (test : ℕ → Bool) (left i : ℕ) → find test (range_with_len i left) ≡ first_from test left i
+unfolding first_from
+find_from test zero i = refl
+find_from test (suc left) i = rw (find_from test left (i + 1))
 
-  pub seek_yes : {i : ℕ} → Seeking test n whole i → i < n → test i ≡ true → At i ≡ whole
-  unfolding first_from
-  seek_yes {i} p h e = sym (rw (left_suc n i h, e)) ∙ p.so
+same_answer : (r : Option ℕ) → option_map (λ k. k) r ≡ r
+same_answer None = refl
+same_answer (Some k) = refl
 
-  pub seek_no : {i : ℕ} → Seeking test n whole i → i < n → test i ≡ false → Seeking test n whole (i + 1)
-  unfolding first_from
-  seek_no {i} p h e = record { within = omega arith; so = sym (rw (left_suc n i h, e)) ∙ p.so }
-
-  pub seek_end : {i : ℕ} → Seeking test n whole i → n ≤ i → Nothing ≡ whole
-  unfolding first_from
-  seek_end {i} p h = sym (rw (left_none n i h)) ∙ p.so
+pub find_is : (test : ℕ → Bool) (n : ℕ) (r : Option ℕ) → option_map (λ k. k) r ≡ find test (range_with_len 0 n) → r ≡ first_place test n
+find_is test n r e = sym (same_answer r) ∙ e ∙ find_from test n 0
 
 -- a place that is found is among those that were tried
-pub first_below : (test : ℕ → Bool) (left i k : ℕ) → first_from test left i ≡ At k → k < i + left
+pub first_below : (test : ℕ → Bool) (left i k : ℕ) → first_from test left i ≡ Some k → k < i + left
 unfolding first_from
 first_below test zero i k e = let z : ◌≡◌ {A = ℕ} 0 1 = cc in omega arith
 first_below test (suc left) i k e = go (test i) e (first_below test left (i + 1) k)
   where
-    go : (b : Bool) → cond b (At i) (first_from test left (i + 1)) ≡ At k → (first_from test left (i + 1) ≡ At k → k < i + 1 + left)
+    go : (b : Bool) → cond b (Some i) (first_from test left (i + 1)) ≡ Some k → (first_from test left (i + 1) ≡ Some k → k < i + 1 + left)
         → k < i + suc left
     go true e r = let q : i ≡ k = cc in omega arith
     go false e r = omega (arith, r e)
 
 -- where nothing is found the test holds at none
-pub first_none : (test : ℕ → Bool) (left i : ℕ) → first_from test left i ≡ Nothing → (k : ℕ) → i ≤ k → k < i + left → test k ≡ false
+pub first_none : (test : ℕ → Bool) (left i : ℕ) → first_from test left i ≡ None → (k : ℕ) → i ≤ k → k < i + left → test k ≡ false
 unfolding first_from
 first_none test zero i e k a b = absurd (omega arith)
 first_none test (suc left) i e k a b = go (test i) refl e (first_none test left (i + 1))
   where
-    go : (t : Bool) → test i ≡ t → cond t (At i) (first_from test left (i + 1)) ≡ Nothing
-        → (first_from test left (i + 1) ≡ Nothing → (j : ℕ) → i + 1 ≤ j → j < i + 1 + left → test j ≡ false) → test k ≡ false
+    go : (t : Bool) → test i ≡ t → cond t (Some i) (first_from test left (i + 1)) ≡ None
+        → (first_from test left (i + 1) ≡ None → (j : ℕ) → i + 1 ≤ j → j < i + 1 + left → test j ≡ false) → test k ≡ false
     go true q e r = cc
     go false q e r = ⊎_elim (λ s. rw (← s) q) (λ s. r e k (omega arith) (omega arith)) (eq-or-lt_of_le a)

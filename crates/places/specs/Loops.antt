@@ -1,7 +1,5 @@
 -- What a loop over a list computes, by recursion on the list; and what a search over places finds.
-use Rattle.std.specs.Prelude.{ℕ, zero, suc, ◌+◌, List, [], ◌∷◌, Bool, true, false, cond}
-use Rattle.places.specs.declared.Found.{Found}
-use Rattle.places.specs.declared.Found.TheVariants.{At, Nothing}
+use Rattle.std.specs.Prelude.{ℕ, zero, suc, ◌+◌, List, [], ◌∷◌, Bool, true, false, cond, Option, Some, None}
 
 -- 1 for yes, 0 for no
 abbrev pub one_if : Bool → ℕ
@@ -25,12 +23,12 @@ count_of test [] = 0
 count_of test (x ∷ xs) = one_if (test x) + count_of test xs
 
 -- the first of the next `left` places, from i on, at which the test holds
-unfoldable pub first_from : (ℕ → Bool) → ℕ → ℕ → Found
-first_from test zero i = Nothing
+unfoldable pub first_from : (ℕ → Bool) → ℕ → ℕ → Option ℕ
+first_from test zero i = None
 first_from test (suc left) i =
     let rest = first_from test left (i + 1) in
-    cond (test i) (At i) rest
+    cond (test i) (Some i) rest
 
 -- the first of the places below n at which the test holds
-abbrev pub first_place : (ℕ → Bool) → ℕ → Found
+abbrev pub first_place : (ℕ → Bool) → ℕ → Option ℕ
 first_place test n = first_from test n 0

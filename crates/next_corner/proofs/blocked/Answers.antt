@@ -1,23 +1,16 @@
--- `next_corner::blocked` meets its contract: no point before place i blocks, so the first that does decides for all, and at the end none
--- does.
-use mathlib.Core.Path.{refl}
-use mathlib.Core.List.{[]}
-use Rattle.places.proofs.Loops.{ask_start, ask_yes, ask_no, ask_end}
-use Rattle.next_corner.specs.NextCorner.{blocked_of}
+-- `next_corner::blocked` meets its contract: `any` asks of each point in turn whether it blocks, as `blocked_of` does.
+use mathlib.Core.Path.{◌∙◌}
 use borrow.Author.Rules.{rules}
+use Rattle.std.proofs.Common.{tests}
+use Rattle.std.proofs.lemmas.Iterator.{YieldsList-from_slice}
+use Rattle.std.proofs.lemmas.Iterator.Search.{any_from_yields_List}
+use Rattle.places.proofs.Loops.{any_is}
+use Rattle.next_corner.specs.NextCorner.{blocks_of, blocked_of}
 use Rattle.next_corner.proofs.blocked.Goals as goal
 
-pub loop-i-init : goal.loop-i-init
-unfolding blocked_of
-loop-i-init c = ask_start refl
-
-pub returns-then-blocks : goal.returns-then-blocks
-returns-then-blocks c =
-    ask_yes [] c.loop-i.invariant (search rules) (cc)
-
-pub loop-i-preserved : goal.loop-i-preserved
-loop-i-preserved c =
-    ask_no [] c.loop-i.invariant (search rules) (cc)
-
 pub returns : goal.returns
-returns c = ask_end c.loop-i.invariant (search rules)
+unfolding blocked_of
+returns c =
+    let test = blocks_of c.args.a c.args.b c.args.c c.args.dir in
+    let ps = c.args.ps.now in
+    any_from_yields_List test _ _ _ c.any.ensures.ran (YieldsList-from_slice ps cc) (λ x b q k. search (rules, tests)) ∙ any_is test ps

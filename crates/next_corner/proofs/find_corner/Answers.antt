@@ -7,8 +7,8 @@ use Rattle.next_corner.proofs.find_corner.Goals as goal
 pub tried-first-requires : goal.tried-first-requires
 tried-first-requires c = rw c.find_ear-ear.ensures (ear_tried c.args.ps.now c.args.dir)
 
-pub returns-in-At : goal.returns-in-At
-returns-in-At c = first_takes _ _ c.find_ear-ear.ensures c.tried-first.ensures _ c.in-At.is
+pub returns-in-Some : goal.returns-in-Some
+returns-in-Some c = first_takes _ _ c.find_ear-ear.ensures c.tried-first.ensures _ c.in-Some.is
 
 pub tried-second-requires : goal.tried-second-requires
 tried-second-requires c = rw c.find_turn-turn.ensures (turn_tried c.args.ps.now c.args.dir)

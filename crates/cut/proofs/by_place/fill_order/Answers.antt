@@ -1,7 +1,7 @@
--- `cut::by_place::fill_order` meets its contract: the places before i hold their own numbers, and place i gets its own, which 32 bits hold.
-use Rattle.cut.proofs.Storing.{order_places}
-use borrow.Author.Rules.{rules}
+-- `cut::by_place::fill_order` meets its contract: each place of the list gets its own number, which 32 bits hold.
+use native.Mathlib.Omega.{arith}
+use Rattle.cut.proofs.Storing.{stored_places}
 use Rattle.cut.proofs.by_place.fill_order.Goals as goal
 
 pub returns : goal.returns
-returns c = order_places c.loop-i.invariant (search rules)
+returns c = stored_places _ _ (omega arith) (λ k h. c.loop-i.invariant k (omega arith))

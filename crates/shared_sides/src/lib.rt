@@ -3,7 +3,7 @@
 // the second in the higher one's.
 #![tactic(auto)]
 
-ghost use Rattle.std.specs.Prelude.{◌≡◌, Bool, true, false, not, ◌&&◌, cond, [], ◌∷◌, ℕ, ◌+◌, ◌*◌, ◌<◌, ◌≤◌, T, eqb, length};
+ghost use Rattle.std.specs.Prelude.{◌≡◌, Bool, true, false, not, ◌&&◌, cond, [], ◌∷◌, ℕ, ◌+◌, ◌*◌, ◌<◌, ◌≤◌, T, eqb, length, get_or};
 ghost use Rattle.places.specs.Limits.{most_vertices, most_faces};
 ghost use Rattle.places.specs.Loops.{any_of};
 ghost use Rattle.places.specs.Lists.{Each};
@@ -116,73 +116,86 @@ fn put_faces(table: &mut [u16], number: &[u16], k: usize, corners: &[u32], ends:
     true
 }
 
-// The two marks at the side between a and b.
-// Ruled out: the same mark twice; the second of a side whose first vertex is the higher taken for the first.
-pub fn first_mark(table: &[u16], number: &[u16], k: usize, a: usize, b: usize) -> u16
-    requires known { Known number.now k a × Known number.now k b × (k ≤ most_vertices) }
-    requires k_in_bounds { k * k ≤ length table.now }
-    ensures { result ≡ first_at (entry_of number.now k) table.now a b }
-{
-    let up = side_table::entry(number, k, a, b);
-    let down = side_table::entry(number, k, b, a);
-    if a < b { table[up] } else { table[down] }
+// The table as it is read: the vertices that occur have the numbers below k, and it has a row and a column for each.
+#[derive(Clone, Copy)]
+pub struct SideTable<'a> {
+    pub table: &'a [u16],
+    pub number: &'a [u16],
+    pub k: usize,
+    pub ghost few: { k ≤ most_vertices },
+    pub ghost wide: { k * k ≤ length table.now },
 }
 
-pub fn second_mark(table: &[u16], number: &[u16], k: usize, a: usize, b: usize) -> u16
-    requires known { Known number.now k a × Known number.now k b × (k ≤ most_vertices) }
-    requires k_in_bounds { k * k ≤ length table.now }
-    ensures { result ≡ second_at (entry_of number.now k) table.now a b }
-{
-    let up = side_table::entry(number, k, a, b);
-    let down = side_table::entry(number, k, b, a);
-    if a < b { table[down] } else { table[up] }
-}
-
-// Whether the side from a to b, where these differ, has no second mark.
-fn lonely_side(table: &[u16], number: &[u16], k: usize, a: usize, b: usize) -> bool
-    requires known { Known number.now k a × Known number.now k b × (k ≤ most_vertices) }
-    requires k_in_bounds { k * k ≤ length table.now }
-    ensures { result ≡ lonely (entry_of number.now k) table.now (a, b) }
-{
-    if a == b {
-        return false;
+impl<'a> SideTable<'a> {
+    // The mark in the row of one vertex and the column of another.
+    fn mark(&self, row: usize, column: usize) -> u16
+        requires known { Known self.now.number.now self.now.k row × Known self.now.number.now self.now.k column }
+        ensures { result ≡ get_or self.now.table.now (entry_of self.now.number.now self.now.k row column) 0 }
+    {
+        self.table[side_table::entry(self.number, self.k, row, column)]
     }
-    second_mark(table, number, k, a, b) == 0
-}
 
-// Whether that is so of a side of a face.
-fn lonely_face(table: &[u16], number: &[u16], k: usize, face: &[u32]) -> bool
-    requires each { Each 0 (Known number.now k) face.now × (k ≤ most_vertices) }
-    requires k_in_bounds { k * k ≤ length table.now }
-    ensures { result ≡ lonely_face (entry_of number.now k) table.now face.now }
-{
-    let n = face.len();
-    for i in 0..n {
-        let a = places::corner(face, i);
-        let b = places::corner(face, places::next(i, n));
-        if lonely_side(table, number, k, a, b) {
-            return true;
+    // The two marks at the side between a and b.
+    // Ruled out: the same mark twice; the second of a side whose first vertex is the higher taken for the first.
+    #[tactic(auto, using(crate::proofs::Rows::first_row, crate::proofs::Rows::lower_known, crate::proofs::Rows::higher_known))]
+    pub fn first_mark(&self, a: usize, b: usize) -> u16
+        requires known { Known self.now.number.now self.now.k a × Known self.now.number.now self.now.k b }
+        ensures { result ≡ first_at (entry_of self.now.number.now self.now.k) self.now.table.now a b }
+    {
+        self.mark(a.min(b), a.max(b))
+    }
+
+    #[tactic(auto, using(crate::proofs::Rows::second_row, crate::proofs::Rows::lower_known, crate::proofs::Rows::higher_known))]
+    pub fn second_mark(&self, a: usize, b: usize) -> u16
+        requires known { Known self.now.number.now self.now.k a × Known self.now.number.now self.now.k b }
+        ensures { result ≡ second_at (entry_of self.now.number.now self.now.k) self.now.table.now a b }
+    {
+        self.mark(a.max(b), a.min(b))
+    }
+
+    // Whether the side from a to b, where these differ, has no second mark.
+    fn lonely_side(&self, a: usize, b: usize) -> bool
+        requires known { Known self.now.number.now self.now.k a × Known self.now.number.now self.now.k b }
+        ensures { result ≡ lonely (entry_of self.now.number.now self.now.k) self.now.table.now (a, b) }
+    {
+        if a == b {
+            return false;
         }
+        self.second_mark(a, b) == 0
     }
-    false
-}
 
-// Whether that is so of a side of any face.
-fn lonely_faces(table: &[u16], number: &[u16], k: usize, corners: &[u32], ends: &[u32]) -> bool
-    requires numbered { Numbered number.now k corners.now ends.now }
-    requires k_in_bounds { k * k ≤ length table.now }
-    ensures { result ≡ lonely_faces (entry_of number.now k) table.now
-        (faces_of corners.now ends.now) }
-{
-    let mut start = 0;
-    for &end in ends {
-        let end = end as usize;
-        if lonely_face(table, number, k, cell::face(corners, start, end)) {
-            return true;
+    // Whether that is so of a side of a face.
+    fn lonely_face(&self, face: &[u32]) -> bool
+        requires { Each 0 (Known self.now.number.now self.now.k) face.now }
+        ensures { result ≡ lonely_face (entry_of self.now.number.now self.now.k) self.now.table.now face.now }
+    {
+        let n = face.len();
+        for i in 0..n {
+            let a = places::corner(face, i);
+            let b = places::corner(face, places::next(i, n));
+            if self.lonely_side(a, b) {
+                return true;
+            }
         }
-        start = end;
+        false
     }
-    false
+
+    // Whether that is so of a side of any face.
+    fn lonely_faces(&self, corners: &[u32], ends: &[u32]) -> bool
+        requires numbered { Numbered self.now.number.now self.now.k corners.now ends.now }
+        ensures { result ≡ lonely_faces (entry_of self.now.number.now self.now.k) self.now.table.now
+            (faces_of corners.now ends.now) }
+    {
+        let mut start = 0;
+        for &end in ends {
+            let end = end as usize;
+            if self.lonely_face(cell::face(corners, start, end)) {
+                return true;
+            }
+            start = end;
+        }
+        false
+    }
 }
 
 // Stamps the corners of a face with a number of its own; true as soon as a corner has that stamp already.
@@ -241,7 +254,8 @@ pub fn pair_up(table: &mut [u16], number: &[u16], k: usize, corners: &[u32], end
     if !put_faces(table, number, k, corners, ends) {
         return false;
     }
-    if lonely_faces(table, number, k, corners, ends) {
+    let sides = SideTable { table, number, k };
+    if sides.lonely_faces(corners, ends) {
         return false;
     }
     !any_doubled(corners, ends)

@@ -1,9 +1,9 @@
--- `shared_sides::lonely_faces` meets its contract: whether a face has a lonely side is asked of those from j on, since none before had.
+-- `shared_sides::SideTable::lonely_faces` meets its contract: whether a face has a lonely side is asked of those from j on, since none before had.
 use native.Mathlib.Omega.{arith}
 use mathlib.Core.Path.{refl}
 use Rattle.cell.proofs.Faces.{faces_start, faces_step, faces_yes, faces_no, faces_end}
 use Rattle.shared_sides.specs.Steps.{lonely_faces}
-use Rattle.shared_sides.proofs.lonely_faces.Goals as goal
+use Rattle.shared_sides.proofs.SideTable.lonely_faces.Goals as goal
 
 pub loop-end-init : goal.loop-end-init
 unfolding lonely_faces

@@ -1,10 +1,10 @@
--- `shared_sides::lonely_face` meets its contract: whether a side of the face is lonely is asked of those from i on, since none before was.
+-- `shared_sides::SideTable::lonely_face` meets its contract: whether a side of the face is lonely is asked of those from i on, since none before was.
 use native.Mathlib.Omega.{arith}
 use mathlib.Core.Path.{refl}
 use Rattle.places.proofs.Rings.{length_sides, side_at}
 use Rattle.places.proofs.Loops.{ask_start, ask_yes, ask_no, ask_end}
 use Rattle.shared_sides.specs.Steps.{lonely_face}
-use Rattle.shared_sides.proofs.lonely_face.Goals as goal
+use Rattle.shared_sides.proofs.SideTable.lonely_face.Goals as goal
 
 pub loop-i-init : goal.loop-i-init
 unfolding lonely_face

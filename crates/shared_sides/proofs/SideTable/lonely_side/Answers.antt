@@ -1,7 +1,7 @@
--- `shared_sides::lonely_side` meets its contract: a side from a vertex to itself is none, and of another the second mark is asked.
+-- `shared_sides::SideTable::lonely_side` meets its contract: a side from a vertex to itself is none, and of another the second mark is asked.
 use borrow.Author.Tests.{eq-eqb, ne_eqb}
 use Rattle.shared_sides.specs.Steps.{lonely}
-use Rattle.shared_sides.proofs.lonely_side.Goals as goal
+use Rattle.shared_sides.proofs.SideTable.lonely_side.Goals as goal
 
 pub returns-then-a-b : goal.returns-then-a-b
 unfolding lonely

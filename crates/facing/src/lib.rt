@@ -18,6 +18,17 @@ ghost use Rattle.facing.specs.Refused.{reversal_refusal};
 ghost use Rattle.facing.specs.Steps.{code_choice, Ground, neighbour_of, up_of, against_of, Met, Spread, Waiting, Seeded, Whole, clash};
 ghost use Rattle.facing.specs.Steps.{clash_face, clash_faces, Marked, Chosen};
 
+use shared_sides::SideTable;
+
+// A cell with the table that has the two marks of each of its sides.
+#[derive(Clone, Copy)]
+struct Paired<'a> {
+    sides: SideTable<'a>,
+    corners: &'a [u32],
+    ends: &'a [u32],
+    ghost ground: { Ground sides.number.now sides.k sides.table.now corners.now ends.now },
+}
+
 // How far the faces are reached: all before `low`, and those in the list before `tail`;
 // of these, those before `head` have asked their neighbours.
 #[derive(Drop)]
@@ -28,19 +39,19 @@ struct Reached {
 }
 
 // The mark of the face on the other side of f's side from a to b; 0 where a is b.
-fn neighbour(table: &[u16], number: &[u16], k: usize, a: usize, b: usize, f: usize) -> u16
-    requires known { Known number.now k a × Known number.now k b × (k ≤ most_vertices) }
-    requires k_in_bounds { (k * k ≤ length table.now) × (a ≢ b → 0 < first_at (entry_of number.now k) table.now a b) }
-    ensures { result ≡ neighbour_of (entry_of number.now k) table.now a b f }
+fn neighbour(sides: &SideTable, a: usize, b: usize, f: usize) -> u16
+    requires known { Known sides.now.number.now sides.now.k a × Known sides.now.number.now sides.now.k b }
+    requires marked { a ≢ b → 0 < first_at (entry_of sides.now.number.now sides.now.k) sides.now.table.now a b }
+    ensures { result ≡ neighbour_of (entry_of sides.now.number.now sides.now.k) sides.now.table.now a b f }
 {
     if a == b {
         return 0;
     }
-    let m = shared_sides::first_mark(table, number, k, a, b);
+    let m = sides.first_mark(a, b);
     if shared_sides::face_of(m) != f {
         return m;
     }
-    shared_sides::second_mark(table, number, k, a, b)
+    sides.second_mark(a, b)
 }
 
 // Whether a face with the code w, as it is turned, runs its side from a to b from the lower vertex to the higher.
@@ -74,42 +85,6 @@ fn meet(code: &mut [u8], list: &mut [u8], tail: usize, m: u16, up: bool) -> usiz
     code[g] = against(m, up);
     list[tail] = g as u8;
     tail + 1
-}
-
-// The first face in the list that has not asked asks its neighbours.
-fn ask(
-    table: &[u16],
-    number: &[u16],
-    k: usize,
-    corners: &[u32],
-    ends: &[u32],
-    code: &mut [u8],
-    list: &mut [u8],
-    at: Reached,
-) -> Reached
-    requires ground { Ground number.now k table.now corners.now ends.now }
-    requires spread { Spread (faces_of corners.now ends.now) code.old list.old at.low at.head at.tail × (at.head < at.tail) }
-    ensures { Spread (faces_of corners.now ends.now) code.new list.new result.low result.head
-        result.tail × (result.head ≡ at.head + 1) }
-{
-    let low = at.low;
-    let head = at.head;
-    let f = list[head] as usize;
-    let face = cell::face_by_number(corners, ends, f);
-    let w = code[f];
-    let n = face.len();
-    let mut tail = at.tail;
-    for i in 0..n {
-        let a = places::corner(face, i);
-        let b = places::corner(face, places::next(i, n));
-        let m = neighbour(table, number, k, a, b, f);
-        tail = meet(code, list, tail, m, runs_up(a, b, w));
-    }
-    Reached {
-        low,
-        head: head + 1,
-        tail,
-    }
 }
 
 // The first face from `from` on that is not reached.
@@ -148,62 +123,6 @@ fn seed(code: &mut [u8], list: &mut [u8], at: Reached) -> Reached
     }
 }
 
-// One more face asks its neighbours.
-fn step(
-    table: &[u16],
-    number: &[u16],
-    k: usize,
-    corners: &[u32],
-    ends: &[u32],
-    code: &mut [u8],
-    list: &mut [u8],
-    at: Reached,
-) -> Reached
-    requires ground { Ground number.now k table.now corners.now ends.now }
-    requires spread { Spread (faces_of corners.now ends.now) code.old list.old at.low at.head at.tail
-        × (at.head < length ends.now) }
-    ensures { Spread (faces_of corners.now ends.now) code.new list.new result.low result.head
-        result.tail × (result.head ≡ at.head + 1) }
-{
-    let ready = seed(code, list, at);
-    ask(table, number, k, corners, ends, code, list, ready)
-}
-
-// Every face is reached, by way of a list with room for each.
-fn reach_over(
-    table: &[u16],
-    number: &[u16],
-    k: usize,
-    corners: &[u32],
-    ends: &[u32],
-    code: &mut [u8],
-    list: &mut [u8],
-)
-    requires ground { Ground number.now k table.now corners.now ends.now }
-    requires blank { Blank code.old × (length code.old ≡ length ends.now) × (length list.old ≡ length ends.now) }
-    ensures { Whole (faces_of corners.now ends.now) code.new }
-{
-    let mut at = Reached {
-        low: 0,
-        head: 0,
-        tail: 0,
-    };
-    while at.head < ends.len() {
-        at = step(table, number, k, corners, ends, code, list, at);
-    }
-}
-
-// The same with a list of its own.
-fn reach(table: &[u16], number: &[u16], k: usize, corners: &[u32], ends: &[u32], code: &mut [u8])
-    requires ground { Ground number.now k table.now corners.now ends.now }
-    requires blank { Blank code.old × (length code.old ≡ length ends.now) }
-    ensures { Whole (faces_of corners.now ends.now) code.new }
-{
-    let n = ends.len();
-    let mut list = [0u8; places::limits::MOST_FACES];
-    reach_over(table, number, k, corners, ends, code, &mut list[..n]);
-}
-
 // Whether the face that left a mark, as its code turns it, runs the side up.
 fn mark_runs_up(code: &[u8], m: u16) -> bool
     requires { (0 < m) × (face_of m < length code.now) }
@@ -214,66 +133,114 @@ fn mark_runs_up(code: &[u8], m: u16) -> bool
 }
 
 // Whether both faces at the side from a to b, where these differ, run it the same way.
-fn clash_side(table: &[u16], number: &[u16], k: usize, code: &[u8], a: usize, b: usize) -> bool
-    requires known { Known number.now k a × Known number.now k b × (k ≤ most_vertices) }
-    requires k_in_bounds { (k * k ≤ length table.now) × Marked (entry_of number.now k) table.now (length code.now) (a, b) }
-    ensures { result ≡ clash (entry_of number.now k) table.now code.now (a, b) }
+fn clash_side(sides: &SideTable, code: &[u8], a: usize, b: usize) -> bool
+    requires known { Known sides.now.number.now sides.now.k a × Known sides.now.number.now sides.now.k b }
+    requires marked { Marked (entry_of sides.now.number.now sides.now.k) sides.now.table.now (length code.now) (a, b) }
+    ensures { result ≡ clash (entry_of sides.now.number.now sides.now.k) sides.now.table.now code.now (a, b) }
 {
     if a == b {
         return false;
     }
-    let first = mark_runs_up(code, shared_sides::first_mark(table, number, k, a, b));
-    let second = mark_runs_up(code, shared_sides::second_mark(table, number, k, a, b));
+    let first = mark_runs_up(code, sides.first_mark(a, b));
+    let second = mark_runs_up(code, sides.second_mark(a, b));
     first == second
 }
 
-// Whether that is so of a side of the face f.
-fn clash_face(
-    table: &[u16],
-    number: &[u16],
-    k: usize,
-    code: &[u8],
-    corners: &[u32],
-    ends: &[u32],
-    f: usize,
-) -> bool
-    requires ground { Ground number.now k table.now corners.now ends.now }
-    requires code_len { (length code.now ≡ length ends.now) × (f < length ends.now) }
-    ensures { result ≡ clash_face (entry_of number.now k) table.now code.now
-        (get_or (faces_of corners.now ends.now) f []) }
-{
-    let face = cell::face_by_number(corners, ends, f);
-    let n = face.len();
-    for i in 0..n {
-        let a = places::corner(face, i);
-        let b = places::corner(face, places::next(i, n));
-        if clash_side(table, number, k, code, a, b) {
-            return true;
+impl<'a> Paired<'a> {
+    // The first face in the list that has not asked asks its neighbours.
+    fn ask(&self, code: &mut [u8], list: &mut [u8], at: Reached) -> Reached
+        requires spread { Spread (faces_of self.now.corners.now self.now.ends.now) code.old list.old at.low at.head at.tail
+            × (at.head < at.tail) }
+        ensures { Spread (faces_of self.now.corners.now self.now.ends.now) code.new list.new result.low result.head
+            result.tail × (result.head ≡ at.head + 1) }
+    {
+        let low = at.low;
+        let head = at.head;
+        let f = list[head] as usize;
+        let face = cell::face_by_number(self.corners, self.ends, f);
+        let w = code[f];
+        let n = face.len();
+        let mut tail = at.tail;
+        for i in 0..n {
+            let a = places::corner(face, i);
+            let b = places::corner(face, places::next(i, n));
+            let m = neighbour(&self.sides, a, b, f);
+            tail = meet(code, list, tail, m, runs_up(a, b, w));
+        }
+        Reached {
+            low,
+            head: head + 1,
+            tail,
         }
     }
-    false
-}
 
-// Whether that is so of a side of any face.
-fn clash_faces(
-    table: &[u16],
-    number: &[u16],
-    k: usize,
-    code: &[u8],
-    corners: &[u32],
-    ends: &[u32],
-) -> bool
-    requires ground { Ground number.now k table.now corners.now ends.now }
-    requires code_len { length code.now ≡ length ends.now }
-    ensures { result ≡ clash_faces (entry_of number.now k) table.now code.now
-        (faces_of corners.now ends.now) }
-{
-    for f in 0..ends.len() {
-        if clash_face(table, number, k, code, corners, ends, f) {
-            return true;
+    // One more face asks its neighbours.
+    fn step(&self, code: &mut [u8], list: &mut [u8], at: Reached) -> Reached
+        requires spread { Spread (faces_of self.now.corners.now self.now.ends.now) code.old list.old at.low at.head at.tail
+            × (at.head < length self.now.ends.now) }
+        ensures { Spread (faces_of self.now.corners.now self.now.ends.now) code.new list.new result.low result.head
+            result.tail × (result.head ≡ at.head + 1) }
+    {
+        let ready = seed(code, list, at);
+        self.ask(code, list, ready)
+    }
+
+    // Every face is reached, by way of a list with room for each.
+    fn reach_over(&self, code: &mut [u8], list: &mut [u8])
+        requires blank { Blank code.old × (length code.old ≡ length self.now.ends.now) × (length list.old ≡ length self.now.ends.now) }
+        ensures { Whole (faces_of self.now.corners.now self.now.ends.now) code.new }
+    {
+        let mut at = Reached {
+            low: 0,
+            head: 0,
+            tail: 0,
+        };
+        while at.head < self.ends.len() {
+            at = self.step(code, list, at);
         }
     }
-    false
+
+    // The same with a list of its own.
+    fn reach(&self, code: &mut [u8])
+        requires blank { Blank code.old × (length code.old ≡ length self.now.ends.now) }
+        ensures { Whole (faces_of self.now.corners.now self.now.ends.now) code.new }
+    {
+        let n = self.ends.len();
+        let mut list = [0u8; places::limits::MOST_FACES];
+        self.reach_over(code, &mut list[..n]);
+    }
+
+    // Whether both faces at a side of the face f run it the same way.
+    fn clash_face(&self, code: &[u8], f: usize) -> bool
+        requires code_len { (length code.now ≡ length self.now.ends.now) × (f < length self.now.ends.now) }
+        ensures { result ≡ clash_face (entry_of self.now.sides.number.now self.now.sides.k) self.now.sides.table.now code.now
+            (get_or (faces_of self.now.corners.now self.now.ends.now) f []) }
+    {
+        let face = cell::face_by_number(self.corners, self.ends, f);
+        let n = face.len();
+        for i in 0..n {
+            let a = places::corner(face, i);
+            let b = places::corner(face, places::next(i, n));
+            if clash_side(&self.sides, code, a, b) {
+                return true;
+            }
+        }
+        false
+    }
+
+    // Whether that is so of a side of any face.
+    fn clash_faces(&self, code: &[u8]) -> bool
+        requires code_len { length code.now ≡ length self.now.ends.now }
+        ensures { result ≡ clash_faces (entry_of self.now.sides.number.now self.now.sides.k) self.now.sides.table.now code.now
+            (faces_of self.now.corners.now self.now.ends.now) }
+    {
+        for f in 0..self.ends.len() {
+            if self.clash_face(code, f) {
+                return true;
+            }
+        }
+        false
+    }
 }
 
 // A face in place, reversed where its code is 2; how many were: 1 or 0.
@@ -309,12 +276,12 @@ pub fn reverse_faces(corners: &mut [u32], ends: &[u32], code: &[u8]) -> usize
 
 // Why no faces are reversed, 0 where some may be, by way of a table of zeros with room for k rows and k columns;
 // where it is 0 the codes are the choice.
-fn choose_over(
+fn choose_over<'a>(
     table: &mut [u16],
-    number: &[u16],
+    number: &'a [u16],
     k: usize,
-    corners: &[u32],
-    ends: &[u32],
+    corners: &'a [u32],
+    ends: &'a [u32],
     code: &mut [u8],
 ) -> u8
     requires numbered { Numbered number.now k corners.now ends.now × (length ends.now ≤ most_faces) }
@@ -324,8 +291,14 @@ fn choose_over(
     if !shared_sides::pair_up(table, number, k, corners, ends) {
         return 11;
     }
-    reach(table, number, k, corners, ends, code);
-    if clash_faces(table, number, k, code, corners, ends) {
+    let sides = SideTable { table, number, k };
+    let cell = Paired {
+        sides,
+        corners,
+        ends,
+    };
+    cell.reach(code);
+    if cell.clash_faces(code) {
         return 12;
     }
     0

@@ -22,11 +22,8 @@ pub returns-then-not-pair_up : goal.returns-then-not-pair_up
 returns-then-not-pair_up c =
     chosen_unfit (faces_of c.args.corners.now c.args.ends.now) _ (failed _ _ c.pair_up.ensures.value c.if-not-pair_up.true)
 
-pub reach-requires-clause-ground : goal.reach-requires-clause-ground
-reach-requires-clause-ground c = ground (goal.at.reach-requires-clause-ground c).Else-not-pair_up
-
-pub clash_faces-requires-clause-ground : goal.clash_faces-requires-clause-ground
-clash_faces-requires-clause-ground c = ground (goal.at.clash_faces-requires-clause-ground c).Else-not-pair_up
+pub invariant_of-cell : goal.invariant_of-cell
+invariant_of-cell c = record { ground = ground (goal.at.invariant_of-cell c).Else-not-pair_up }
 
 pub returns-then-clash_faces : goal.returns-then-clash_faces
 returns-then-clash_faces c =

@@ -6,74 +6,29 @@ use mathlib.Core.List.{List, [], ◌∷◌}
 use Prim.Native.Nat.{ℕ, ◌+◌, ◌-◌, ◌<◌, ◌≤◌, min}
 use native.Mathlib.Decide.{ℕ_discrete, dec_lt}
 use native.Mathlib.Omega.{arith}
-use lib.Dec.{T, eqb→eq}
-use lib.ListN.{length, get_or, set, drop, length-set, drop_of_length-le, replicate, length-replicate}
+use lib.Dec.{T}
+use lib.ListN.{length, get_or, set, replicate}
 use lib.Seq.{slice, length-slice, get_or-set_same, get_or-set_other}
 use borrow.Author.Tests.{lt-ltb, le-ltb, eq-eqb, ne_eqb}
 use Rattle.places.specs.Ring.{next_of}
 use Rattle.places.proofs.Loops.{Rounding, round_start, round_next, round_end}
-use Rattle.places.proofs.Stamps.{zeros, set_holds}
+use Rattle.places.proofs.Stamps.{zeros}
 use Rattle.cell.specs.Faces.{faces_of, rises}
 use Rattle.cell.proofs.Faces.{Facing, face_start, face_next, face_end_lem}
-use Rattle.closedness.specs.Steps.{lower_of, code_of, codes_at, Chain, Backward, Links, Unlinked, Lists}
+use Rattle.closedness.specs.Steps.{lower_of, code_of, codes_at, Chain, Lists}
 use Rattle.closedness.specs.Steps.{Gains, push, push_face, push_faces}
 
 -- ---- what is stored at a place that a chain does not reach
-chain_keep : {next other : List ℕ} (s x y h : ℕ) (cs : List ℕ) → Backward next other → h ≤ s → Chain next other h cs
+chain_keep : (next other : List ℕ) (s x y h : ℕ) (cs : List ℕ) → ((p : ℕ) → get_or next p 0 ≤ p) → h ≤ s → Chain next other h cs
     → Chain (set next s x) (set other s y) h cs
-chain_keep s x y h [] b g t = t
-chain_keep {next} {other} s x y h (c ∷ cs) b g t =
+chain_keep next other s x y h [] back g t = t
+chain_keep next other s x y h (c ∷ cs) back g t =
     let above : 0 < h = t.0 in
     let n : h - 1 ≢ s = λ e. absurd (omega arith) in
-    let rest = chain_keep s x y (get_or next (h - 1) 0) cs b (omega (arith, b.back (h - 1))) t.2 in
+    let rest = chain_keep next other s x y (get_or next (h - 1) 0) cs back (omega (arith, back (h - 1))) t.2 in
     (t.0, get_or-set_other other s (h - 1) y 0 n ∙ t.1, rw (get_or-set_other next s (h - 1) x 0 n) rest)
 
-module _ {head next other : List ℕ} {s : ℕ} (k : Links head next other s) (h : s < length next) where
-  -- no side is linked
-  pub links_none : Links head next other (s + 1)
-  links_none = record {
-    heads = k.heads;
-    few = k.few;
-    upto = omega arith;
-    first = λ m. omega (arith, k.first m);
-    backward = k.backward;
-  }
-
-  -- a side with the code y becomes the first of the chain of m
-  module _ (m y : ℕ) (g : m < 256) (d : y < 512) where
-    pub links_one : Links (set head m (s + 1)) (set next s (get_or head m 0)) (set other s y) (s + 1)
-    links_one = record {
-      heads = length-set head m (s + 1) ∙ k.heads;
-      few = rw length-set k.few;
-      upto = rw length-set (omega arith);
-      first = set_holds (λ p z. z ≤ s + 1) head m (s + 1) (omega arith) (λ p. omega (arith, k.first p));
-      backward = record {
-        sizes = length-set other s y ∙ k.backward.sizes ∙ sym (length-set next s (get_or head m 0));
-        back = set_holds (λ p z. z ≤ p) next s (get_or head m 0) (k.first m) k.backward.back;
-        codes = set_holds (λ p z. z < 512) other s y d k.backward.codes;
-      };
-    }
-
-    lists_more : (l l' : List (ℕ × ℕ)) → codes_at m l' ≡ y ∷ codes_at m l → ((i : ℕ) → i ≢ m → codes_at i l' ≡ codes_at i l)
-        → Lists head next other l → Lists (set head m (s + 1)) (set next s (get_or head m 0)) (set other s y) l'
-    lists_more l l' here there t = record { chain = λ i b. go i b (ℕ_discrete i m) }
-      where
-        kept : (i : ℕ) → i < 256 → Chain (set next s (get_or head m 0)) (set other s y) (get_or head i 0) (codes_at i l)
-        kept i b = chain_keep s (get_or head m 0) y (get_or head i 0) (codes_at i l) k.backward (k.first i) (t.chain i b)
-
-        top : Chain (set next s (get_or head m 0)) (set other s y) (s + 1) (y ∷ codes_at m l)
-        top =
-            let q : s + 1 - 1 ≡ s = omega arith in
-            let p : s < length other = omega (arith, k.backward.sizes) in
-            (omega arith, rw (q, get_or-set_same other s y 0 p), rw (q, get_or-set_same next s (get_or head m 0) 0 h) (kept m g))
-
-        go : (i : ℕ) → i < 256 → Dec (i ≡ m)
-            → Chain (set next s (get_or head m 0)) (set other s y) (get_or (set head m (s + 1)) i 0) (codes_at i l')
-        go i b (yes e) = rw (e, here, get_or-set_same head m (s + 1) 0 (omega (arith, k.heads))) top
-        go i b (no n) = rw (there i n, get_or-set_other head m i (s + 1) 0 n) (kept i b)
-
--- ---- a side from a to b
--- the lesser of its ends is the lower
+-- the lesser end of a side is the lower
 pub lower_min : {m : ℕ} (a b : ℕ) → m ≡ min a b → m ≡ lower_of a b
 lower_min {m} a b e = go (dec_lt a b)
   where
@@ -81,27 +36,36 @@ lower_min {m} a b e = go (dec_lt a b)
     go (yes h) = rw (lt-ltb a b h) (omega arith)
     go (no n) = rw (le-ltb a b (omega arith)) (omega arith)
 
--- one between two vertices
-pub lists_one : {head next other : List ℕ} {s m y : ℕ} (a b : ℕ) (l : List (ℕ × ℕ)) → Links head next other s → s < length next → m < 256
-    → y < 512 → a ≢ b → m ≡ lower_of a b → y ≡ code_of a b → Lists head next other l
-    → Lists (set head m (s + 1)) (set next s (get_or head m 0)) (set other s y) (push a b l)
-lists_one {head} {next} {other} {s} {m} {y} a b l k h g d n p q t = lists_more k h m y g d l (push a b l) here there t
-  where
-    here : codes_at m (push a b l) ≡ y ∷ codes_at m l
-    here = rw (p, q, ne_eqb a b n, eq-eqb (lower_of a b) (lower_of a b) refl) (ap (λ (i : ℕ). code_of a b ∷ codes_at i l) p)
+-- ---- a side at the place s becomes the first of the chain of m, with the code y
+module _ {head next other : List ℕ} {s m y : ℕ} (first : (i : ℕ) → get_or head i 0 ≤ s) (back : (p : ℕ) → get_or next p 0 ≤ p)
+    (in_next : s < length next) (in_other : s < length other) (in_head : m < length head) where
+  lists_more : (l l' : List (ℕ × ℕ)) → codes_at m l' ≡ y ∷ codes_at m l → ((i : ℕ) → i ≢ m → codes_at i l' ≡ codes_at i l)
+      → Lists head next other l → Lists (set head m (s + 1)) (set next s (get_or head m 0)) (set other s y) l'
+  lists_more l l' here there t = record { chain = λ i b. go i b (ℕ_discrete i m) }
+    where
+      kept : (i : ℕ) → i < 256 → Chain (set next s (get_or head m 0)) (set other s y) (get_or head i 0) (codes_at i l)
+      kept i b = chain_keep next other s (get_or head m 0) y (get_or head i 0) (codes_at i l) back (first i) (t.chain i b)
 
-    there : (i : ℕ) → i ≢ m → codes_at i (push a b l) ≡ codes_at i l
-    there i e = rw (ne_eqb a b n, ne_eqb (lower_of a b) i (λ z. e (sym (p ∙ z))))
+      top : m < 256 → Chain (set next s (get_or head m 0)) (set other s y) (s + 1) (y ∷ codes_at m l)
+      top b =
+          let q : s + 1 - 1 ≡ s = omega arith in
+          (omega arith, rw (q, get_or-set_same other s y 0 in_other), rw (q, get_or-set_same next s (get_or head m 0) 0 in_next) (kept m b))
 
--- one from a vertex to itself
-pub lists_none : {head next other : List ℕ} (a b : ℕ) (l : List (ℕ × ℕ)) → a ≡ b → Lists head next other l
-    → Lists head next other (push a b l)
-lists_none {head} {next} {other} a b l e t = record {
-  chain = λ m g. subst (Chain next other (get_or head m 0)) (sym (none m)) (t.chain m g);
-}
-  where
-    none : (m : ℕ) → codes_at m (push a b l) ≡ codes_at m l
-    none m = rw (eq-eqb a b e)
+      go : (i : ℕ) → i < 256 → Dec (i ≡ m)
+          → Chain (set next s (get_or head m 0)) (set other s y) (get_or (set head m (s + 1)) i 0) (codes_at i l')
+      go i b (yes e) = rw (e, here, get_or-set_same head m (s + 1) 0 in_head) (top (omega (arith, e)))
+      go i b (no n) = rw (there i n, get_or-set_other head m i (s + 1) 0 n) (kept i b)
+
+  -- a side from a to b, which are two vertices
+  pub lists_one : (a b : ℕ) (l : List (ℕ × ℕ)) → a ≢ b → m ≡ lower_of a b → y ≡ code_of a b → Lists head next other l
+      → Lists (set head m (s + 1)) (set next s (get_or head m 0)) (set other s y) (push a b l)
+  lists_one a b l n p q t = lists_more l (push a b l) here there t
+    where
+      here : codes_at m (push a b l) ≡ y ∷ codes_at m l
+      here = rw (p, q, ne_eqb a b n, eq-eqb (lower_of a b) (lower_of a b) refl) (ap (λ (i : ℕ). code_of a b ∷ codes_at i l) p)
+
+      there : (i : ℕ) → i ≢ m → codes_at i (push a b l) ≡ codes_at i l
+      there i e = rw (ne_eqb a b n, ne_eqb (lower_of a b) i (λ z. e (sym (p ∙ z))))
 
 -- ---- the sides of a face: those before place i are there
 pub record FaceLinked (Holds : List (ℕ × ℕ) → Type 0) (face : List ℕ) (l : List (ℕ × ℕ)) (i : ℕ) : Type 0 where
@@ -151,43 +115,9 @@ module _ {Held : List (ℕ × ℕ) → Type 0} {c es : List ℕ} {l : List (ℕ 
 pub face_length : {face : List ℕ} (p e : ℕ) (c : List ℕ) → face ≡ slice p e c → p ≤ e → e ≤ length c → p + length face ≡ e
 face_length p e c q a b = rw q (omega (arith, length-slice p e c b))
 
--- after the last face the end before the next is the number of the corners
-pub all_read : (p : ℕ) (es : List ℕ) (n k : ℕ) → length es ≤ k → T (rises p (drop k es) n) → p ≡ n
-all_read p es n k h t = eqb→eq p n (rw (drop_of_length-le es h) at t)
-
--- ---- before the first side and after the last
-pub links_start : {next other : List ℕ} → Unlinked next other → Links (replicate 256 0) next other 0
-links_start u = record {
-  heads = length-replicate {A = ℕ} 256 0;
-  few = u.few;
-  upto = omega arith;
-  first = (zeros 256).zero;
-  backward = record { sizes = u.sizes; back = λ p. omega (arith, u.no_next p); codes = λ p. omega (arith, u.no_code p) };
-}
-
-pub lists_start : {next other : List ℕ} → Lists (replicate 256 0) next other []
-lists_start = record { chain = λ m g. none m }
+-- ---- before the first side
+pub lists_start : (n : ℕ) → Lists (replicate 256 0) (replicate n 0) (replicate n 0) []
+lists_start n = record { chain = λ m g. none m }
   where
     none : (m : ℕ) → ◌≡◌ {A = ℕ} (get_or (replicate 256 0) m 0) 0
     none m = omega (arith, (zeros 256).zero m)
-
-pub links_end : {head next other : List ℕ} {s : ℕ} → Links head next other s → Links head next other (length next)
-links_end k = record {
-  heads = k.heads;
-  few = k.few;
-  upto = omega arith;
-  first = λ m. omega (arith, k.first m, k.upto);
-  backward = k.backward;
-}
-
--- two lists of n zeros have a place for each of k corners
-pub unlinked : {k : ℕ} (n : ℕ) → n ≤ 2048 → k ≤ n → Unlinked (replicate n 0) (replicate n 0) × (k ≤ length {A = ℕ} (replicate n 0))
-unlinked {k} n h g = (
-  record {
-    few = rw (length-replicate {A = ℕ} n 0) h;
-    sizes = refl;
-    no_next = (zeros n).zero;
-    no_code = (zeros n).zero;
-  },
-  rw (length-replicate {A = ℕ} n 0) g,
-)

@@ -1,4 +1,4 @@
--- The tally along a chain, for `tally_chain`, and over all chains, for `even_chains`: what is left of the chain makes, with the tally, the
+-- The tally along a chain, for `tally_chain`, and over all chains, for `is_even`: what is left of the chain makes, with the tally, the
 -- whole; and after a chain whose gap is 0 the vertex has as many sides up as down to each other vertex.
 use mathlib.Core.Path.{◌≡◌, refl, sym, ◌∙◌}
 use mathlib.Core.Bool.{true, false}
@@ -7,13 +7,14 @@ use Prim.Native.Nat.{ℕ, ◌+◌, ◌*◌, ◌-◌, ◌<◌, ◌≤◌}
 use native.Mathlib.Decide.{ℕ_discrete}
 use native.Mathlib.Omega.{arith}
 use lib.Dec.{eqb}
-use lib.ListN.{length, get_or, set, length-set}
+use lib.ListN.{length, get_or, set, take, length-set}
 use lib.Seq.{get_or-set_same, get_or-set_other}
 use borrow.Author.Tests.{eq-eqb, ne_eqb}
+use Rattle.std.proofs.lemmas.List.{get_or-take, length-take}
 use Rattle.places.specs.Loops.{one_if}
 use Rattle.places.specs.Steps.{Blank}
 use Rattle.places.proofs.Loops.{one_at_most}
-use Rattle.closedness.specs.Steps.{codes_at, times, Chain, Lists, gap_of, Room, Raised, Tallied, Uneven, Even}
+use Rattle.closedness.specs.Steps.{codes_at, times, Chain, Lists, gap_of, Raised, Tallied, Uneven, Even}
 use Rattle.closedness.proofs.Gap.{gap_zero, gap_none, gap_some}
 
 -- one more at k
@@ -90,9 +91,6 @@ EvenBelow m l = (i j : ℕ) → i < m → j < 256 → times j (codes_at i l) ≡
 pub level_start : {t : List ℕ} → length t ≡ 512 → Blank t → Level 0 t
 level_start {t} w z = record { size = w; most = λ c. omega (arith, z.zero c); no_gap = gap_none 256 t z.zero }
 
-pub level_room : {m n : ℕ} {t : List ℕ} → Level m t → m < 256 → n ≤ 2048 → Room n t
-level_room r h g = record { size = r.size; spare = λ c. omega (arith, r.most c) }
-
 pub level_more : {m n : ℕ} {t t' : List ℕ} → Level m t → n ≤ 2048 → Raised n t t' → gap_of t' ≡ 0 → Level (m + 1) t'
 level_more r g d e = record { size = d.size; most = λ c. omega (arith, r.most c, d.most c); no_gap = e }
 
@@ -100,6 +98,15 @@ level_more r g d e = record { size = d.size; most = λ c. omega (arith, r.most c
 pub chain_at : {head next other : List ℕ} {m h : ℕ} {l : List (ℕ × ℕ)} → Lists head next other l → m < 256 → h ≡ get_or head m 0
     → Chain next other h (codes_at m l)
 chain_at t g e = rw e (t.chain _ g)
+
+-- a link that was read among the first v
+pub record Among (head : List ℕ) (v i : ℕ) : Type 0 where
+  pub below : i < v
+  pub read : get_or (take v head) i 0 ≡ get_or head i 0
+
+pub among : (head : List ℕ) (v i : ℕ) → i < length (take v head) → Among head v i
+among head v i h =
+    let below : i < v = omega (arith, length-take v head) in record { below = below; read = get_or-take v head i 0 below }
 
 module _ (m : ℕ) (l : List (ℕ × ℕ)) {t t' : List ℕ} (z : gap_of t ≡ 0) (d : Tallied (codes_at m l) t t') where
   pub even_more : gap_of t' ≡ 0 → EvenBelow m l → EvenBelow (m + 1) l

@@ -2,7 +2,7 @@
 -- Here the chains of sides, for each vertex a chain of the sides that have it as their lower end, and the tally that is kept along a chain.
 use Rattle.std.specs.Prelude.{◌≡◌, ◌≢◌, Bool, true, false, not, ◌&&◌, cond, List, [], ◌∷◌, ℕ, zero, suc, ◌+◌, ◌-◌, ◌<◌, ◌≤◌, eqb, ltb}
 use Rattle.std.specs.Prelude.{length, get_or}
-use Rattle.places.specs.Limits.{most_vertices, most_corners}
+use Rattle.places.specs.Limits.{most_vertices}
 use Rattle.places.specs.Loops.{fold_list, one_if}
 use Rattle.places.specs.Ring.{fold_sides}
 
@@ -39,27 +39,6 @@ times c (x ∷ cs) = one_if (eqb x c) + times c cs
 abbrev pub Chain : List ℕ → List ℕ → ℕ → List ℕ → Type 0
 Chain next other h [] = h ≡ 0
 Chain next other h (c ∷ cs) = (0 < h) × (get_or other (h - 1) 0 ≡ c) × Chain next other (get_or next (h - 1) 0) cs
-
--- each chain goes on at an earlier place, and the codes are codes
-pub record Backward (next other : List ℕ) : Type 0 where
-  pub sizes : length other ≡ length next
-  pub back : (p : ℕ) → get_or next p 0 ≤ p
-  pub codes : (p : ℕ) → get_or other p 0 < 512
-
--- the chains hold no side at the place s or after it
-pub record Links (head next other : List ℕ) (s : ℕ) : Type 0 where
-  pub heads : length head ≡ most_vertices
-  pub few : length next ≤ most_corners
-  pub upto : s ≤ length next
-  pub first : (m : ℕ) → get_or head m 0 ≤ s
-  pub backward : Backward next other
-
--- the lists in which no side is linked yet
-pub record Unlinked (next other : List ℕ) : Type 0 where
-  pub few : length next ≤ most_corners
-  pub sizes : length other ≡ length next
-  pub no_next : (p : ℕ) → get_or next p 0 ≤ 0
-  pub no_code : (p : ℕ) → get_or other p 0 ≤ 0
 
 -- the chains are those of the sides of a list
 pub record Lists (head next other : List ℕ) (l : List (ℕ × ℕ)) : Type 0 where

@@ -1,7 +1,15 @@
--- `closedness::closed_within` meets its contract: lists of N zeros have a place for each corner.
-use Rattle.closedness.proofs.Linked.{unlinked}
+-- `closedness::closed_within` meets its contract: the chains hold the sides of all faces, and even chains are closed faces.
+use native.Mathlib.Omega.{arith}
+use Rattle.places.proofs.Stamps.{zeros}
+use Rattle.closedness.proofs.Linked.{lists_start}
+use Rattle.closedness.proofs.Evened.{even_closed}
 use Rattle.closedness.proofs.closed_within.Goals as goal
 
-pub closed_linked-requires : goal.closed_linked-requires
-closed_linked-requires g c =
-    record { each = c.requires.each; unlinked = unlinked g.row.N c.requires.room.1 c.requires.room.0 }
+pub invariant_of-chains : goal.invariant_of-chains
+invariant_of-chains g c =
+    record { few = omega arith; first = (zeros 256).zero; back = λ p. omega (arith, (zeros g.row.N).zero p); codes = λ p. omega (arith, (zeros g.row.N).zero p) }
+
+pub returns : goal.returns
+returns g c =
+    even_closed _ _ c.requires.each.0 c.requires.each.1 c.is_even.result
+    (c.is_even.ensures _ (c.link_faces.ensures _ (lists_start g.row.N)))

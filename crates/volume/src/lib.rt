@@ -16,7 +16,7 @@ ghost use Rattle.volume.specs.Steps.{measured_of, add_face, add_face_moments};
 
 // What one pass over the faces tells: six times the signed volume, how many triangles there
 // are, and how many faces of three or more corners gave too few.
-#[derive(Drop)]
+#[derive(Clone, Copy)]
 pub struct Measured {
     pub v6: f64,
     pub triangles: usize,
@@ -24,13 +24,14 @@ pub struct Measured {
 }
 
 // The sums of the geometric centroid.
-#[derive(Drop)]
+#[derive(Clone, Copy)]
 pub struct Moments {
     pub v6: f64,
     pub sum: [f64; 3],
 }
 
 // a . (b x c)
+#[tactic(auto, unfolding(crate::specs::Volume::triple_of))]
 pub fn triple_product(a: [f64; 3], b: [f64; 3], c: [f64; 3]) -> f64
     ensures { result ≡ triple_of a b c }
 {
@@ -41,6 +42,7 @@ pub fn triple_product(a: [f64; 3], b: [f64; 3], c: [f64; 3]) -> f64
 }
 
 // Corner k of a triangle, taken from the reference point.
+#[tactic(auto, using(flat::proofs::Corners::corner_at))]
 fn corner_from(coords: &[f64], t: [u32; 3], refp: [f64; 3], k: usize) -> [f64; 3]
     requires inside { Inside (vertices_of coords.now) t }
     requires k_bound { k < 3 }
@@ -50,6 +52,7 @@ fn corner_from(coords: &[f64], t: [u32; 3], refp: [f64; 3], k: usize) -> [f64; 3
 }
 
 // The triple product of a triangle about the reference point.
+#[tactic(auto, unfolding(crate::specs::Volume::triple_about))]
 fn triple(coords: &[f64], t: [u32; 3], refp: [f64; 3]) -> f64
     requires { Inside (vertices_of coords.now) t }
     ensures { result ≡ triple_about (vertices_of coords.now) refp t }
@@ -66,13 +69,9 @@ fn add_triangles(coords: &[f64], tris: &[[u32; 3]], refp: [f64; 3], v: f64) -> f
     requires { Each [] (Inside (vertices_of coords.now)) tris.now }
     ensures { result ≡ fold_list (add_triple (vertices_of coords.now) refp) tris.now v }
 {
-    let n = tris.len();
     let mut s = v;
-    let mut i = 0;
-    while i < n {
-        let t = tris[i];
+    for &t in tris {
         s += triple(coords, t, refp);
-        i += 1;
     }
     s
 }
@@ -82,10 +81,7 @@ fn short_share(n: usize, triangles: usize) -> usize
     requires { triangles ≤ most_corners }
     ensures { (result ≡ one_if (leb 3 n && ltb (triangles + 2) n)) × (result ≤ 1) }
 {
-    if n < 3 {
-        return 0;
-    }
-    if triangles + 2 < n { 1 } else { 0 }
+    usize::from(n >= 3 && triangles + 2 < n)
 }
 
 // What is known so far with a face's share added; its triangles are laid down in out.
@@ -119,21 +115,29 @@ fn measure_in(coords: &[f64], corners: &[u32], ends: &[u32], out: &mut [[u32; 3]
     ensures { result ≡ measured_of (vertices_of coords.now) (faces_of corners.now ends.now) }
 {
     let refp = flat::space::vertex_centroid(coords);
-    let n = ends.len();
     let mut m = Measured {
         v6: 0.0,
         triangles: 0,
         short: 0,
     };
     let mut start = 0;
-    let mut k = 0;
-    while k < n {
-        let end = places::corner(ends, k);
+    for &end in ends {
+        let end = end as usize;
         m = add_face(coords, cell::face(corners, start, end), refp, m, out);
         start = end;
-        k += 1;
     }
     m
+}
+
+// The same with a list of its own for the triangles of a face, of N places. Each size is a function: a small cell does not clear the list
+// of a large one.
+fn measure_sized<const N: usize>(coords: &[f64], corners: &[u32], ends: &[u32]) -> Measured
+    requires sound { Sound coords.now corners.now ends.now }
+    requires n_bound { (length corners.now ≤ N) × (N ≤ most_corners) }
+    ensures { result ≡ measured_of (vertices_of coords.now) (faces_of corners.now ends.now) }
+{
+    let mut out = [[0u32; 3]; N];
+    measure_in(coords, corners, ends, &mut out)
 }
 
 // The list for one face's triangles is cleared once a cell, and is small for usual cells.
@@ -142,14 +146,14 @@ pub fn measure(coords: &[f64], corners: &[u32], ends: &[u32]) -> Measured
     ensures { result ≡ measured_of (vertices_of coords.now) (faces_of corners.now ends.now) }
 {
     if corners.len() <= 256 {
-        let mut out = [[0u32; 3]; 256];
-        return measure_in(coords, corners, ends, &mut out);
+        measure_sized::<256>(coords, corners, ends)
+    } else {
+        measure_sized::<{ places::limits::MOST_CORNERS }>(coords, corners, ends)
     }
-    let mut out = [[0u32; 3]; places::limits::MOST_CORNERS];
-    measure_in(coords, corners, ends, &mut out)
 }
 
 // |v6| / 6.
+#[tactic(auto, unfolding(crate::specs::Volume::volume_of, crate::specs::Steps::measured_of))]
 pub fn volume(coords: &[f64], corners: &[u32], ends: &[u32]) -> f64
     requires { Sound coords.now corners.now ends.now }
     ensures { result ≡ volume_of (vertices_of coords.now) (faces_of corners.now ends.now) }
@@ -159,6 +163,7 @@ pub fn volume(coords: &[f64], corners: &[u32], ends: &[u32]) -> f64
 }
 
 // The sums with those of one triangle added.
+#[tactic(auto, unfolding(crate::specs::Volume::add_moment, crate::specs::Volume::triple_about))]
 fn add_moment(coords: &[f64], t: [u32; 3], refp: [f64; 3], m: Moments) -> Moments
     requires { Inside (vertices_of coords.now) t }
     ensures { result ≡ add_moment (vertices_of coords.now) refp t m }
@@ -183,13 +188,9 @@ fn add_moments(coords: &[f64], tris: &[[u32; 3]], refp: [f64; 3], m: Moments) ->
     requires { Each [] (Inside (vertices_of coords.now)) tris.now }
     ensures { result ≡ fold_list (add_moment (vertices_of coords.now) refp) tris.now m }
 {
-    let n = tris.len();
     let mut s = m;
-    let mut i = 0;
-    while i < n {
-        let t = tris[i];
+    for &t in tris {
         s = add_moment(coords, t, refp, s);
-        i += 1;
     }
     s
 }
@@ -224,37 +225,50 @@ fn moments_in(
     requires refp_value { refp ≡ centroid_of 3 (vertices_of coords.now) }
     ensures { result ≡ moments_of (vertices_of coords.now) (faces_of corners.now ends.now) }
 {
-    let n = ends.len();
     let mut m = Moments {
         v6: 0.0,
         sum: [0.0, 0.0, 0.0],
     };
     let mut start = 0;
-    let mut i = 0;
-    while i < n {
-        let end = places::corner(ends, i);
+    for &end in ends {
+        let end = end as usize;
         m = add_face_moments(coords, cell::face(corners, start, end), refp, m, out);
         start = end;
-        i += 1;
     }
     m
 }
 
-// The same with a list of its own for the triangles, small for usual cells.
+// The same with a list of its own for the triangles of a face, of N places.
+fn moments_sized<const N: usize>(
+    coords: &[f64],
+    corners: &[u32],
+    ends: &[u32],
+    refp: [f64; 3],
+) -> Moments
+    requires sound { Sound coords.now corners.now ends.now }
+    requires n_bound { (length corners.now ≤ N) × (N ≤ most_corners) }
+    requires refp_value { refp ≡ centroid_of 3 (vertices_of coords.now) }
+    ensures { result ≡ moments_of (vertices_of coords.now) (faces_of corners.now ends.now) }
+{
+    let mut out = [[0u32; 3]; N];
+    moments_in(coords, corners, ends, refp, &mut out)
+}
+
+// The list is small for usual cells.
 fn sum_moments(coords: &[f64], corners: &[u32], ends: &[u32], refp: [f64; 3]) -> Moments
     requires sound { Sound coords.now corners.now ends.now }
     requires refp_value { refp ≡ centroid_of 3 (vertices_of coords.now) }
     ensures { result ≡ moments_of (vertices_of coords.now) (faces_of corners.now ends.now) }
 {
     if corners.len() <= 256 {
-        let mut out = [[0u32; 3]; 256];
-        return moments_in(coords, corners, ends, refp, &mut out);
+        moments_sized::<256>(coords, corners, ends, refp)
+    } else {
+        moments_sized::<{ places::limits::MOST_CORNERS }>(coords, corners, ends, refp)
     }
-    let mut out = [[0u32; 3]; places::limits::MOST_CORNERS];
-    moments_in(coords, corners, ends, refp, &mut out)
 }
 
 // The point that the sums about the reference point give: the first vertex when |v6| < 1e-30.
+#[tactic(auto, unfolding(crate::specs::Volume::balance_of))]
 fn balance(coords: &[f64], refp: [f64; 3], m: Moments) -> [f64; 3]
     requires { 0 < length (vertices_of coords.now) }
     ensures { result ≡ balance_of (vertices_of coords.now) refp m }
@@ -268,6 +282,7 @@ fn balance(coords: &[f64], refp: [f64; 3], m: Moments) -> [f64; 3]
 }
 
 // The point at which the cell balances, as the sums about the vertex centroid give it.
+#[tactic(auto, using(places::proofs::Stored::length_threes), unfolding(crate::specs::Volume::geometric_centroid_of))]
 pub fn geometric_centroid(coords: &[f64], corners: &[u32], ends: &[u32]) -> [f64; 3]
     requires { Sound coords.now corners.now ends.now }
     ensures { result ≡ geometric_centroid_of (vertices_of coords.now) (faces_of corners.now ends.now) }

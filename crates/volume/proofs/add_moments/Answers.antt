@@ -5,9 +5,9 @@ use Rattle.places.proofs.Loops.{take_next, take_end}
 use borrow.Author.Rules.{rules}
 use Rattle.volume.proofs.add_moments.Goals as goal
 
-pub loop-i-preserved : goal.loop-i-preserved
-loop-i-preserved c =
-    take_next [] c.loop-i.invariant (search rules) (cc)
+pub loop-t-preserved : goal.loop-t-preserved
+loop-t-preserved c =
+    take_next [] c.loop-t.invariant (search rules) (cc)
 
 pub returns : goal.returns
-returns c = take_end c.loop-i.invariant (search rules)
+returns c = take_end c.loop-t.invariant (search rules)

@@ -2,6 +2,7 @@
 -- counts stay at most the corners and faces that were passed.
 use mathlib.Core.Path.{◌≡◌, refl}
 use native.Mathlib.Omega.{arith}
+use lib.ListN.{get_or}
 use lib.Seq.{length-slice, slice}
 use Rattle.places.proofs.Stored.{length_threes}
 use Rattle.flat.specs.Points.{vertices_of}
@@ -17,39 +18,41 @@ pub vertex_centroid-refp-requires : goal.vertex_centroid-refp-requires
 vertex_centroid-refp-requires c =
     omega (arith, length_threes c.args.coords.now, c.requires.sound.threes, c.requires.sound.few)
 
-pub loop-k-init : goal.loop-k-init
-loop-k-init c =
+pub loop-end-init : goal.loop-end-init
+loop-end-init c =
     let all = measured_all (vertices_of c.args.coords.now) (faces_of c.args.corners.now c.args.ends.now) in
     (refl, omega arith, omega arith, face_start c.requires.sound.ordered (rw c.vertex_centroid-refp.ensures all))
 
 pub face-requires : goal.face-requires
 face-requires c =
-    let step = face_step c.loop-k.invariant.3 (search rules) c.corner-end.ensures.0 in
+    let step = face_step c.loop-end.invariant.3 (search rules) refl in
     (step.from, step.upto)
 
 pub add_face-m-requires : goal.add_face-m-requires
 add_face-m-requires c =
-    let step = face_step c.loop-k.invariant.3 (search rules) c.corner-end.ensures.0 in
-    let long = length-slice c.loop-k.start c.corner-end.result c.args.corners.now step.upto in
+    let end = get_or c.args.ends.now c.loop-end.end-index 0 in
+    let step = face_step c.loop-end.invariant.3 (search rules) refl in
+    let long = length-slice c.loop-end.start end c.args.corners.now step.upto in
     rw c.face.ensures (record {
-      inside = each_slice c.loop-k.start c.corner-end.result c.args.corners.now c.requires.sound.inside;
+      inside = each_slice c.loop-end.start end c.args.corners.now c.requires.sound.inside;
       face_len_bound = (omega arith, omega arith);
       triangles_le_most_corners = (omega arith, omega arith);
     })
 
-pub loop-k-preserved : goal.loop-k-preserved
-loop-k-preserved c =
+pub loop-end-preserved : goal.loop-end-preserved
+loop-end-preserved c =
+    let end = get_or c.args.ends.now c.loop-end.end-index 0 in
     let vs = vertices_of c.args.coords.now in
-    let step = face_step c.loop-k.invariant.3 (search rules) c.corner-end.ensures.0 in
-    let long = length-slice c.loop-k.start c.corner-end.result c.args.corners.now step.upto in
-    let face = slice c.loop-k.start c.corner-end.result c.args.corners.now in
-    let same : c.add_face-m.result ≡ add_face vs c.vertex_centroid-refp.result face c.loop-k.m = cc in
-    let counts = added vs c.vertex_centroid-refp.result face c.loop-k.m c.add_face-m.result same in (
+    let step = face_step c.loop-end.invariant.3 (search rules) refl in
+    let long = length-slice c.loop-end.start end c.args.corners.now step.upto in
+    let face = slice c.loop-end.start end c.args.corners.now in
+    let same : c.add_face-m.result ≡ add_face vs c.vertex_centroid-refp.result face c.loop-end.m = cc in
+    let counts = added vs c.vertex_centroid-refp.result face c.loop-end.m c.add_face-m.result same in (
       omega (arith, c.add_face-m.auto.out),
       omega arith,
       omega arith,
-      face_next c.loop-k.invariant.3 (search rules) c.corner-end.ensures.0 same,
+      face_next c.loop-end.invariant.3 (search rules) refl same,
     )
 
 pub returns : goal.returns
-returns c = face_end_lem c.loop-k.invariant.3 (search rules)
+returns c = face_end_lem c.loop-end.invariant.3 (search rules)

@@ -1,5 +1,5 @@
 use mathlib.Core.Path.{◌≡◌}
-use Prim.Native.Nat.{◌-◌, ◌≤◌}
+use Prim.Native.Nat.{◌≤◌}
 use lib.ListN.{length}
 use Rattle.flat.specs.Points.{vertices_of}
 use Rattle.cell.specs.Faces.{faces_of}
@@ -7,11 +7,8 @@ use Rattle.cell.proofs.Faces.{Facing}
 use Rattle.volume.specs.Steps.{measured_of, add_face}
 use Rattle.volume.proofs.measure_in.Given as goal
 
-abbrev pub invariant-loop-k : goal.invariant-loop-k
-invariant-loop-k l =
+abbrev pub invariant-loop-end : goal.invariant-loop-end
+invariant-loop-end l =
     let vs = vertices_of l.coords in
-    (length l.out ≡ length l.initial.out) × (l.m.triangles ≤ l.start) × (l.m.short ≤ l.k) ×
-    Facing (add_face vs l.refp) l.corners l.ends (measured_of vs (faces_of l.corners l.ends)) l.start l.k l.m
-
-abbrev pub decreases-loop-k : goal.decreases-loop-k
-decreases-loop-k l = l.n - l.k
+    (length l.out ≡ length l.initial.out) × (l.m.triangles ≤ l.start) × (l.m.short ≤ l.end-index) ×
+    Facing (add_face vs l.refp) l.corners l.ends (measured_of vs (faces_of l.corners l.ends)) l.start l.end-index l.m

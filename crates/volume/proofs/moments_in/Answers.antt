@@ -9,19 +9,19 @@ use Rattle.volume.proofs.Passes.{moments_all}
 use borrow.Author.Rules.{rules}
 use Rattle.volume.proofs.moments_in.Goals as goal
 
-pub loop-i-init : goal.loop-i-init
-loop-i-init c =
+pub loop-end-init : goal.loop-end-init
+loop-end-init c =
     let all = moments_all (vertices_of c.args.coords.now) (faces_of c.args.corners.now c.args.ends.now) in
     (refl, face_start c.requires.sound.ordered (rw c.requires.refp_value all))
 
 pub face-requires : goal.face-requires
 face-requires c =
-    let step = face_step c.loop-i.invariant.1 (search rules) c.corner-end.ensures.0 in
+    let step = face_step c.loop-end.invariant.1 (search rules) refl in
     (step.from, step.upto)
 
-pub loop-i-preserved : goal.loop-i-preserved
-loop-i-preserved c =
-    (omega (arith, c.add_face_moments-m.auto.out), face_next c.loop-i.invariant.1 (search rules) c.corner-end.ensures.0 (cc))
+pub loop-end-preserved : goal.loop-end-preserved
+loop-end-preserved c =
+    (omega (arith, c.add_face_moments-m.auto.out), face_next c.loop-end.invariant.1 (search rules) refl (cc))
 
 pub returns : goal.returns
-returns c = face_end_lem c.loop-i.invariant.1 (search rules)
+returns c = face_end_lem c.loop-end.invariant.1 (search rules)

@@ -1,5 +1,4 @@
 use mathlib.Core.Path.{◌≡◌}
-use Prim.Native.Nat.{◌-◌}
 use lib.ListN.{length}
 use Rattle.flat.specs.Points.{vertices_of}
 use Rattle.cell.specs.Faces.{faces_of}
@@ -8,11 +7,8 @@ use Rattle.volume.specs.Volume.{moments_of}
 use Rattle.volume.specs.Steps.{add_face_moments}
 use Rattle.volume.proofs.moments_in.Given as goal
 
-abbrev pub invariant-loop-i : goal.invariant-loop-i
-invariant-loop-i l =
+abbrev pub invariant-loop-end : goal.invariant-loop-end
+invariant-loop-end l =
     let vs = vertices_of l.coords in
     (length l.out ≡ length l.initial.out) ×
-    Facing (add_face_moments vs l.refp) l.corners l.ends (moments_of vs (faces_of l.corners l.ends)) l.start l.i l.m
-
-abbrev pub decreases-loop-i : goal.decreases-loop-i
-decreases-loop-i l = l.n - l.i
+    Facing (add_face_moments vs l.refp) l.corners l.ends (moments_of vs (faces_of l.corners l.ends)) l.start l.end-index l.m

@@ -4,3 +4,4 @@ pub mod Ring
 pub mod Stored
 pub mod Steps
 pub mod Limits
+pub mod Refusals

@@ -1,0 +1,29 @@
+-- Why a call is refused: a row of the table of SCOPE 3, and its number; and what a check finds.
+use Rattle.std.specs.Prelude.{◌≡◌, ℕ, ⊤, Result, Ok}
+use Rattle.places.specs.declared.refusal.Refusal.{Refusal}
+use Rattle.places.specs.declared.refusal.Refusal.TheVariants.{Size, Number, Ends, Index, EmptyFace, Room, Record, Tail, Sides, Choice, Inexact}
+
+-- the number of a row
+abbrev pub number_of : Refusal → ℕ
+number_of Size = 1
+number_of Number = 2
+number_of Ends = 3
+number_of Index = 4
+number_of EmptyFace = 5
+number_of Room = 6
+number_of Record = 7
+number_of Tail = 8
+number_of Sides = 11
+number_of Choice = 12
+number_of Inexact = 15
+
+-- n is the number of the row
+abbrev pub NumberOf : Refusal → ℕ → Type 0
+NumberOf why n = n ≡ number_of why
+
+-- what a check finds: nothing against the call, or why it is refused
+abbrev pub Check : Type 0
+Check = Result ⊤ Refusal
+
+abbrev pub no_refusal : Check
+no_refusal = Ok tt

@@ -42,18 +42,13 @@ fn inexact(x: f64, o: f64) -> bool
 }
 
 // Whether a coordinate of a vertex cannot be moved exactly.
+#[tactic(auto, unfolding(crate::specs::Local::stays_behind))]
 fn stays_behind(origin: [f64; 3], p: [f64; 3]) -> bool
     requires in_range { InRange p }
     requires whole_point { WholePoint origin }
     ensures { result ≡ stays_behind origin p }
 {
-    if inexact(p[0], origin[0]) {
-        return true;
-    }
-    if inexact(p[1], origin[1]) {
-        return true;
-    }
-    inexact(p[2], origin[2])
+    inexact(p[0], origin[0]) || inexact(p[1], origin[1]) || inexact(p[2], origin[2])
 }
 
 // Whether a vertex of the list cannot be moved exactly to its local origin.
@@ -64,13 +59,10 @@ pub fn move_refused(coords: &[f64]) -> bool
     ensures { result ≡ move_refused (vertices_of coords.now) }
 {
     let origin = origin(coords);
-    let n = coords.len() / 3;
-    let mut i = 0;
-    while i < n {
+    for i in 0..coords.len() / 3 {
         if stays_behind(origin, flat::space::vertex(coords, i)) {
             return true;
         }
-        i += 1;
     }
     false
 }
@@ -82,10 +74,8 @@ pub fn move_by(coords: &mut [f64], origin: [f64; 3])
     ensures { coords.new ≡ joined (moved_by origin (vertices_of coords.old)) }
 {
     let n = coords.len() / 3;
-    let mut v = 0;
-    while v < n {
+    for v in 0..n {
         let p = flat::space::vertex(coords, v);
         flat::space::put_vertex(coords, v, flat::minus3(p, origin));
-        v += 1;
     }
 }

@@ -1,4 +1,3 @@
-use Rattle.std.proofs.Common.{◌-◌}
 use Rattle.places.proofs.Loops.{Asking}
 use Rattle.flat.specs.Points.{vertices_of}
 use Rattle.local.specs.Local.{origin_of, stays_behind, move_refused}
@@ -8,6 +7,3 @@ abbrev pub invariant-loop-i : goal.invariant-loop-i
 invariant-loop-i l =
     let vs = vertices_of l.coords in
     Asking (stays_behind (origin_of vs)) vs (move_refused vs) l.i
-
-abbrev pub decreases-loop-i : goal.decreases-loop-i
-decreases-loop-i l = l.n - l.i

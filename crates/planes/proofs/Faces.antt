@@ -8,10 +8,12 @@ use native.Mathlib.Numerals.{add-one}
 use native.Mathlib.Nat.{zero-add}
 use native.Mathlib.Omega.{arith}
 use lib.Dec.{T}
+use mir.Val.{bool_byte}
 use lib.ListN.{length, get_or, set, take, drop, length-set, length-take}
 use lib.Seq.{slice, take_all, take-suc-set}
 use borrow.Author.Tests.{eqb-false}
 use Rattle.places.specs.Loops.{one_if, count_of}
+use Rattle.std.proofs.Common.{Some, None}
 use Rattle.flat.specs.Points.{Point, corners_of}
 use Rattle.cell.specs.Faces.{faces_from, faces_of, rises}
 use Rattle.cell.specs.Refusals.{is_empty, empty_refused}
@@ -19,7 +21,7 @@ use Rattle.cell.proofs.Faces.{Step, FaceAsking, faces_start, faces_step, faces_y
 use Rattle.planes.specs.declared.Plane.{Plane}
 use Rattle.planes.specs.declared.PlaneOrNone.{PlaneOrNone}
 use Rattle.planes.specs.Planes.{PlaneOrNoArea, no_area, has_plane, has_no_area, newell_plane, plane_of, planes_of, no_area_count}
-use Rattle.planes.specs.Steps.{handed}
+use Rattle.planes.specs.Steps.{plane_if, handed}
 
 -- ---- a plane or no area, as it is handed on
 pub handed_plane : (x : PlaneOrNoArea) {f : PlaneOrNone} → f ≡ handed x → f.area ≡ true → x ≡ has_plane f.plane
@@ -29,6 +31,15 @@ handed_plane (has_plane p) e t = ap has_plane (sym (ap (λ (f : PlaneOrNone). f.
 pub handed_no_area : (x : PlaneOrNoArea) {f : PlaneOrNone} → f ≡ handed x → f.area ≡ false → x ≡ no_area
 handed_no_area no_area e t = refl
 handed_no_area (has_plane p) e t = absurd (true≢false (sym (ap (λ (f : PlaneOrNone). f.area) e) ∙ t))
+
+-- and as it is answered
+pub answered_plane : (x : PlaneOrNoArea) {p : Plane} → Some p ≡ plane_if x → x ≡ has_plane p
+answered_plane no_area e = cc
+answered_plane (has_plane p) e = ap has_plane (cc)
+
+pub answered_no_area : (x : PlaneOrNoArea) → None ≡ plane_if x → x ≡ no_area
+answered_no_area no_area e = refl
+answered_no_area (has_plane p) e = cc
 
 -- ---- a face by its points
 pub plane_with_area : (ps : List Point) → has_no_area ps ≡ false → plane_of ps ≡ has_plane (newell_plane ps)
@@ -113,6 +124,11 @@ unfolding planes_of
 gather_end {c = c} {es = es} {out = out} {p = p} {k = k} {m = m} g h l =
     let all : take m out ≡ _ = sym (append-nil (take m out)) ∙ sym (rw (faces_none p c es k h)) ∙ g.so in
     (omega (arith, length-take m out, ap length all, g.few, g.room), all)
+
+-- a test as the number that is laid down or counted
+pub counted : (b : Bool) → bool_byte b ≡ one_if b
+counted true = refl
+counted false = refl
 
 -- ---- a number for each face: k are laid down, and with those of the faces from k on they are `whole`
 pub record Laying {A : Type 0} (f : List ℕ → A) (c es : List ℕ) (whole : List A) (p k : ℕ) (out : List A) : Type 0 where

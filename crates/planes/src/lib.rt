@@ -10,7 +10,7 @@ ghost use Rattle.cell.specs.Steps.{Sound};
 ghost use Rattle.planes.specs.Planes.{dot_of, offset_of, unit_plane, all_zero, has_no_area, no_area, plane_of, planes_of, no_area_faces};
 ghost use Rattle.planes.specs.Planes.{no_area_count};
 ghost use Rattle.planes.specs.Planes.{distance_of, same_side, coplanar_opposite, in_fours};
-ghost use Rattle.planes.specs.Steps.{no_plane, handed};
+ghost use Rattle.planes.specs.Steps.{no_plane, plane_if, handed};
 
 // A unit normal and an offset; inside is n · x <= d.
 #[derive(Clone, Copy)]
@@ -55,15 +55,11 @@ fn unit_plane(n: [f64; 3], d: f64) -> Plane
 
 // Whether three sums are all 0, of either sign.
 // Ruled out: a sum that is only small taken for 0; a NaN taken for 0.
+#[tactic(auto, unfolding(crate::specs::Planes::all_zero))]
 fn all_zero(n: [f64; 3]) -> bool
     ensures { result ≡ all_zero n }
 {
-    if n[0] == 0.0 {
-        if n[1] == 0.0 {
-            return n[2] == 0.0;
-        }
-    }
-    false
+    n[0] == 0.0 && n[1] == 0.0 && n[2] == 0.0
 }
 
 // Whether a face has no area.
@@ -73,6 +69,21 @@ pub fn has_no_area(coords: &[f64], face: &[u32]) -> bool
     ensures { result ≡ has_no_area (corners_of (vertices_of coords.now) face.now) }
 {
     all_zero(flat::space::face_normal(coords, face))
+}
+
+// The plane of a face, or nothing where it has no area. Where 1 / norm is infinite, no part of the plane is finite, as SCOPE 11 says.
+// Ruled out: each part divided by the norm, which rounds once instead of twice; an offset taken at the last corner.
+pub fn plane_if_area(coords: &[f64], face: &[u32]) -> Option<Plane>
+    requires inside { Inside (vertices_of coords.now) face.now }
+    requires face_nonzero { 0 < length face.now }
+    ensures { result ≡ plane_if (plane_of (corners_of (vertices_of coords.now) face.now)) }
+{
+    let n = flat::space::face_normal(coords, face);
+    if all_zero(n) {
+        return None;
+    }
+    let p = flat::space::vertex_at(coords, face, 0);
+    Some(unit_plane(n, offset(n, p)))
 }
 
 // The answer for a face of no area.
@@ -86,21 +97,15 @@ pub fn no_area() -> PlaneOrNone
     }
 }
 
-// The plane of a face, or that it has no area. Where 1 / norm is infinite, no part of the plane is finite, as SCOPE 11 says.
-// Ruled out: each part divided by the norm, which rounds once instead of twice; an offset taken at the last corner.
+// The same with a flag beside the plane, for those who take it so.
 pub fn plane_of_face(coords: &[f64], face: &[u32]) -> PlaneOrNone
     requires inside { Inside (vertices_of coords.now) face.now }
     requires face_nonzero { 0 < length face.now }
     ensures { result ≡ handed (plane_of (corners_of (vertices_of coords.now) face.now)) }
 {
-    let n = flat::space::face_normal(coords, face);
-    if all_zero(n) {
-        return no_area();
-    }
-    let p = flat::space::vertex_at(coords, face, 0);
-    PlaneOrNone {
-        area: true,
-        plane: unit_plane(n, offset(n, p)),
+    match plane_if_area(coords, face) {
+        Some(plane) => PlaneOrNone { area: true, plane },
+        None => no_area(),
     }
 }
 
@@ -180,15 +185,12 @@ pub fn planes(coords: &[f64], corners: &[u32], ends: &[u32], out: &mut [f64]) ->
 {
     let mut m = 0;
     let mut start = 0;
-    let mut k = 0;
-    while k < ends.len() {
-        let end = places::corner(ends, k);
+    for &end in ends {
+        let end = end as usize;
         let face = cell::face(corners, start, end);
-        let found = plane_of_face(coords, face);
         start = end;
-        k += 1;
-        if found.area {
-            put_plane(out, m, found.plane);
+        if let Some(plane) = plane_if_area(coords, face) {
+            put_plane(out, m, plane);
             m += 1;
         }
     }
@@ -203,13 +205,11 @@ pub fn no_area_faces(coords: &[f64], corners: &[u32], ends: &[u32], out: &mut [u
     ensures { out.new ≡ no_area_faces (vertices_of coords.now) (faces_of corners.now ends.now) }
 {
     let mut start = 0;
-    let mut k = 0;
-    while k < ends.len() {
-        let end = places::corner(ends, k);
+    for (k, &end) in ends.iter().enumerate() {
+        let end = end as usize;
         let face = cell::face(corners, start, end);
-        out[k] = places::one_if(has_no_area(coords, face));
+        out[k] = usize::from(has_no_area(coords, face));
         start = end;
-        k += 1;
     }
 }
 
@@ -221,13 +221,11 @@ pub fn no_area_count(coords: &[f64], corners: &[u32], ends: &[u32]) -> usize
 {
     let mut count = 0;
     let mut start = 0;
-    let mut k = 0;
-    while k < ends.len() {
-        let end = places::corner(ends, k);
+    for &end in ends {
+        let end = end as usize;
         let face = cell::face(corners, start, end);
-        count += places::one_if(has_no_area(coords, face));
+        count += usize::from(has_no_area(coords, face));
         start = end;
-        k += 1;
     }
     count
 }

@@ -1,5 +1,3 @@
-use Prim.Native.Nat.{◌-◌}
-use lib.ListN.{length}
 use Rattle.places.specs.Loops.{one_if}
 use Rattle.flat.specs.Points.{vertices_of, corners_of}
 use Rattle.cell.specs.Faces.{faces_of}
@@ -12,6 +10,3 @@ invariant-loop-k l =
     let vs = vertices_of l.coords in
     Laying (λ face. one_if (has_no_area (corners_of vs face))) l.corners l.ends
     (no_area_faces vs (faces_of l.corners l.ends)) l.start l.k l.out
-
-abbrev pub decreases-loop-k : goal.decreases-loop-k
-decreases-loop-k l = length l.ends - l.k

@@ -3,7 +3,7 @@ pub mod Test
 pub mod Pairs
 pub mod Accepted
 pub mod Corners
-pub mod Chains
+pub mod Linked
 pub mod Stamps
 pub mod Pairing
 pub mod Same

@@ -50,7 +50,8 @@ chunk_at c t x h s =
     record { within = within; same = rw (threes_at c t 0 within, first, second, third, add-zero) refl }
 
 -- one is enough for a yes
-some_at : (c : List ℕ) (t : ℕ) → t < length c / 3 → not_different (get_or (in_threes c) t []) ≡ true → true ≡ any_of not_different (in_threes c)
+some_at : (c : List ℕ) (t : ℕ) → t < length c / 3 → not_different (get_or (in_threes c) t []) ≡ true
+    → true ≡ any_of not_different (in_threes c)
 some_at c t h e = go (any_of not_different (in_threes c)) refl
   where
     go : (b : Bool) → any_of not_different (in_threes c) ≡ b → true ≡ b
@@ -67,7 +68,8 @@ module _ {S : Type 0} {steps : S → Option (Bor (List ℕ)) → S → Type 0} (
       go (Some x) i = chunk_at c t x i.1 i.2
 
   -- a closure that says whether a chunk has a place twice is asked of the chunks: yes at one, or no at all
-  pub any_chunks : {K : Type 0} {Yes No : Bor (List ℕ) → Type 0} {r : Bool} → K → ((x : Bor (List ℕ)) → Yes x → true ≡ doubled (triple x.now))
+  pub any_chunks : {K : Type 0} {Yes No : Bor (List ℕ) → Type 0} {r : Bool} → K
+      → ((x : Bor (List ℕ)) → Yes x → true ≡ doubled (triple x.now))
       → ((x : Bor (List ℕ)) → No x → false ≡ doubled (triple x.now))
       → MatchBool r (K → AnyItem p Yes) (IsTrue p.whole × (K → AllItems p No)) → r ≡ any_of not_different (in_threes c)
   any_chunks {Yes = Yes} {r = true} keeps there never m =

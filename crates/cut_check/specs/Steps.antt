@@ -64,11 +64,6 @@ abbrev pub Chain : List ℕ → ℕ → List ℕ → Type 0
 Chain next h [] = h ≡ 0
 Chain next h (p ∷ ps) = (h ≡ p + 1) × Chain next (get_or next p 0) ps
 
--- each chain goes on at an earlier corner
-pub record Backward (next corners : List ℕ) : Type 0 where
-  pub sizes : length next ≡ length corners
-  pub back : (p : ℕ) → get_or next p 0 ≤ p
-
 -- the chain of each place has those of the first s corners that are there
 pub record Lists (head next corners : List ℕ) (s : ℕ) : Type 0 where
   pub chain : (a : ℕ) → Chain next (get_or head a 0) (corners_at a corners s)

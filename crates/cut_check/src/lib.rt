@@ -4,7 +4,7 @@
 // corners.
 #![tactic(auto)]
 
-ghost use Rattle.std.specs.Prelude.{◌≡◌, ◌↔◌, true, List, [], ◌∷◌, map, ℕ, ◌+◌, ◌*◌, ◌/◌, ◌<◌, ◌≤◌, ◌%◌, length};
+ghost use Rattle.std.specs.Prelude.{◌≡◌, ◌↔◌, true, List, [], ◌∷◌, map, ℕ, ◌+◌, ◌*◌, ◌<◌, ◌≤◌, ◌%◌, length, get_or};
 ghost use Rattle.places.specs.Lists.{Each};
 ghost use Rattle.places.specs.Limits.{most_checked_corners, most_checked_triangles};
 ghost use Rattle.places.specs.Loops.{any_of};
@@ -13,7 +13,7 @@ ghost use Rattle.places.specs.Steps.{Blank, Fresh};
 ghost use Rattle.exact.specs.Facing.{doubled};
 ghost use Rattle.cut_check.specs.CutCheck.{not_different, is_cut_of};
 ghost use Rattle.cut_check.specs.Steps.{Paired, PairedAt, after_of, before_of, place_after, place_before, corners_at, CheckedCorners};
-ghost use Rattle.cut_check.specs.Steps.{Chain, Backward, Lists, set_all, Took};
+ghost use Rattle.cut_check.specs.Steps.{Chain, Lists, set_all, Took};
 
 // The corner after s in its triangle, and the one before it.
 fn corner_after(s: usize) -> usize
@@ -28,21 +28,6 @@ fn corner_before(s: usize) -> usize
     ensures { result ≡ before_of s }
 {
     if s % 3 == 0 { s + 2 } else { s - 1 }
-}
-
-// What stands at the corner after s in its triangle, and at the one before it.
-fn place_after(corners: &[u32], s: usize) -> usize
-    requires { (s < length corners.now) × (length corners.now % 3 ≡ 0) × (length corners.now ≤ 3 * most_checked_triangles) }
-    ensures { result ≡ place_after corners.now s }
-{
-    places::corner(corners, corner_after(s))
-}
-
-fn place_before(corners: &[u32], s: usize) -> usize
-    requires { (s < length corners.now) × (length corners.now % 3 ≡ 0) × (length corners.now ≤ 3 * most_checked_triangles) }
-    ensures { result ≡ place_before corners.now s }
-{
-    places::corner(corners, corner_before(s))
 }
 
 // Whether two of three places are the same.
@@ -60,111 +45,126 @@ fn any_same(corners: &[u32]) -> bool
     corners.chunks_exact(3).any(|t| two_same(t[0], t[1], t[2]))
 }
 
-// Each corner becomes the first of the chain of its place.
-fn link(head: &mut [u16], next: &mut [u16], corners: &[u32])
-    requires checked_corners { CheckedCorners (length head.old) corners.now × (length next.old ≡ length corners.now) }
-    requires blank { Blank head.old × Blank next.old }
-    ensures { Backward next.new corners.now × Lists head.new next.new corners.now (length corners.now) }
-{
-    for (s, &place) in corners.iter().enumerate() {
-        let a = place as usize;
-        next[s] = head[a];
-        head[a] = (s + 1) as u16;
-    }
-}
-
-// Writes the stamp `own` at each place from which a side comes to the place whose corners the chain holds.
-fn stamp_before(stamp: &mut [u16], next: &[u16], corners: &[u32], first: usize, own: u16)
-    requires checked_corners { CheckedCorners (length stamp.old) corners.now × Backward next.now corners.now }
-    requires first_in_bounds { first ≤ length corners.now }
-    ensures { (ps : List ℕ) → Chain next.now first ps
-        → stamp.new ≡ set_all own (map (place_before corners.now) ps) stamp.old }
-{
-    let mut h = first;
-    while h > 0 {
-        let b = place_before(corners, h - 1);
-        stamp[b] = own;
-        h = places::read(next, h - 1);
-    }
-}
-
-// Whether the sides that leave the place whose corners the chain holds go to places that have the stamp `own`, each to another: a stamp
-// that is used is taken off.
-fn take_after(stamp: &mut [u16], next: &[u16], corners: &[u32], first: usize, own: u16) -> bool
-    requires checked_corners { CheckedCorners (length stamp.old) corners.now × Backward next.now corners.now }
-    requires first_in_bounds { first ≤ length corners.now }
-    ensures { (ps : List ℕ) → Chain next.now first ps
-        → Took own (map (place_after corners.now) ps) stamp.old stamp.new result }
-{
-    let mut h = first;
-    while h > 0 {
-        let b = place_after(corners, h - 1);
-        if stamp[b] != own {
-            return false;
-        }
-        stamp[b] = 0;
-        h = places::read(next, h - 1);
-    }
-    true
-}
-
-// Whether at the place a each side that leaves goes to another place, from which one comes back. The face, backward, comes from the place
-// after a and goes to the one before it.
-fn paired_at(
-    stamp: &mut [u16],
-    next: &[u16],
-    corners: &[u32],
-    first: usize,
-    a: usize,
+// The corners of triangles beside a face of n corners, linked in chains: a chain for each place, of the corners at that place. A link is 0
+// where the chain ends, and else 1 more than the number of a corner, which has the next link of its chain.
+#[derive(Drop)]
+struct Chains<'a, const N: usize, const M: usize> {
     n: usize,
-) -> bool
-    requires checked_corners { CheckedCorners n corners.now × Backward next.now corners.now × (n ≤ most_checked_corners) × (a < n) }
-    requires chain { Chain next.now first (corners_at a corners.now (length corners.now)) }
-    requires stamp_len { (length stamp.old ≡ n) × Fresh (a + 1) stamp.old }
-    ensures variant { (result ≡ true) ↔ PairedAt n (in_threes corners.now) a }
-    ensures fresh { result ≡ true → Fresh (a + 1 + 1) stamp.new }
-{
-    let own = (a + 1) as u16;
-    stamp_before(stamp, next, corners, first, own);
-    stamp[places::next(a, n)] = own;
-    if !take_after(stamp, next, corners, first, own) {
-        return false;
-    }
-    stamp[places::prev(a, n)] == own
+    corners: &'a [u32],
+    head: [u16; N],
+    next: [u16; M],
+    ghost places: { (n ≤ N) × (N ≤ most_checked_corners) },
+    ghost room: { (length corners.now ≤ M) × (M ≤ 3 * most_checked_triangles) },
+    ghost threes: { length corners.now % 3 ≡ 0 },
+    ghost below: { (s : ℕ) → s < length corners.now → get_or corners.now s 0 < n },
+    // Each chain goes on at an earlier corner.
+    ghost back: { (p : ℕ) → get_or next p 0 ≤ p },
 }
 
-// Whether at each place every side that leaves goes to another place, from which one comes back. The stamps that a place leaves need no
-// clearing, since each place has one of its own.
-fn paired(stamp: &mut [u16], head: &[u16], next: &[u16], corners: &[u32], n: usize) -> bool
-    requires checked_corners { CheckedCorners n corners.now × Backward next.now corners.now × (n ≤ most_checked_corners) }
-    requires head_len { (length head.now ≡ n) × Lists head.now next.now corners.now (length corners.now) }
-    requires stamp_len { (length stamp.old ≡ n) × Blank stamp.old }
-    ensures { (result ≡ true) ↔ Paired n (in_threes corners.now) }
-{
-    for (a, &first) in head.iter().enumerate() {
-        if !paired_at(stamp, next, corners, first as usize, a, n) {
-            return false;
+impl<'a, const N: usize, const M: usize> Chains<'a, N, M> {
+    // Each corner becomes the first of the chain of its place.
+    fn new(corners: &'a [u32], n: usize) -> Self
+        requires checked_corners { CheckedCorners n corners.now }
+        requires room { (n ≤ N) × (N ≤ most_checked_corners) × (length corners.now ≤ M) × (M ≤ 3 * most_checked_triangles) }
+        ensures same { (result.n ≡ n) × (result.corners.now ≡ corners.now) }
+        ensures lists { Lists result.head result.next corners.now (length corners.now) }
+    {
+        let mut head = [0; N];
+        let mut next = [0; M];
+        for (s, &place) in corners.iter().enumerate() {
+            let a = place as usize;
+            next[s] = head[a];
+            head[a] = (s + 1) as u16;
+        }
+        Chains {
+            n,
+            corners,
+            head,
+            next,
         }
     }
-    true
-}
 
-// Whether each side occurs once each way, by way of lists of zeros: a place for each corner of the face, twice, and one for each corner of
-// a triangle.
-fn paired_in(
-    head: &mut [u16],
-    stamp: &mut [u16],
-    next: &mut [u16],
-    corners: &[u32],
-    n: usize,
-) -> bool
-    requires checked_corners { CheckedCorners n corners.now × (n ≤ most_checked_corners) }
-    requires head_len { (length head.old ≡ n) × (length stamp.old ≡ n) × (length next.old ≡ length corners.now) }
-    requires blank { Blank head.old × Blank stamp.old × Blank next.old }
-    ensures { (result ≡ true) ↔ Paired n (in_threes corners.now) }
-{
-    link(head, next, corners);
-    paired(stamp, head, next, corners, n)
+    // What stands at the corner after s in its triangle, and at the one before it.
+    fn place_after(&self, s: usize) -> usize
+        requires { s < length self.now.corners.now }
+        ensures { result ≡ place_after self.now.corners.now s }
+    {
+        places::corner(self.corners, corner_after(s))
+    }
+
+    fn place_before(&self, s: usize) -> usize
+        requires { s < length self.now.corners.now }
+        ensures { result ≡ place_before self.now.corners.now s }
+    {
+        places::corner(self.corners, corner_before(s))
+    }
+
+    // Writes the stamp `own` at each place from which a side comes to the place whose corners the chain holds.
+    fn stamp_before(&self, stamp: &mut [u16], first: usize, own: u16)
+        requires stamp_len { length stamp.old ≡ self.now.n }
+        requires first_within { first ≤ length self.now.corners.now }
+        ensures { (ps : List ℕ) → Chain self.now.next first ps
+            → stamp.new ≡ set_all own (map (place_before self.now.corners.now) ps) stamp.old }
+    {
+        let mut h = first;
+        while h > 0 {
+            let b = self.place_before(h - 1);
+            stamp[b] = own;
+            h = self.next[h - 1] as usize;
+        }
+    }
+
+    // Whether the sides that leave the place whose corners the chain holds go to places that have the stamp `own`, each to another: a stamp
+    // that is used is taken off.
+    fn take_after(&self, stamp: &mut [u16], first: usize, own: u16) -> bool
+        requires stamp_len { length stamp.old ≡ self.now.n }
+        requires first_within { first ≤ length self.now.corners.now }
+        ensures { (ps : List ℕ) → Chain self.now.next first ps
+            → Took own (map (place_after self.now.corners.now) ps) stamp.old stamp.new result }
+    {
+        let mut h = first;
+        while h > 0 {
+            let b = self.place_after(h - 1);
+            if stamp[b] != own {
+                return false;
+            }
+            stamp[b] = 0;
+            h = self.next[h - 1] as usize;
+        }
+        true
+    }
+
+    // Whether at the place a, whose chain starts at `first`, each side that leaves goes to another place, from which one comes back. The
+    // face, backward, comes from the place after a and goes to the one before it.
+    fn paired_at(&self, stamp: &mut [u16], first: usize, a: usize) -> bool
+        requires chain { Chain self.now.next first (corners_at a self.now.corners.now (length self.now.corners.now)) }
+        requires stamp_len { (a < self.now.n) × (length stamp.old ≡ self.now.n) × Fresh (a + 1) stamp.old }
+        ensures variant { (result ≡ true) ↔ PairedAt self.now.n (in_threes self.now.corners.now) a }
+        ensures fresh { result ≡ true → Fresh (a + 1 + 1) stamp.new }
+    {
+        let own = (a + 1) as u16;
+        self.stamp_before(stamp, first, own);
+        stamp[places::next(a, self.n)] = own;
+        if !self.take_after(stamp, first, own) {
+            return false;
+        }
+        stamp[places::prev(a, self.n)] == own
+    }
+
+    // Whether at each place every side that leaves goes to another place, from which one comes back. The stamps that a place leaves need no
+    // clearing, since each place has one of its own.
+    fn paired(&self, stamp: &mut [u16]) -> bool
+        requires lists { Lists self.now.head self.now.next self.now.corners.now (length self.now.corners.now) }
+        requires stamp_len { (length stamp.old ≡ self.now.n) × Blank stamp.old }
+        ensures { (result ≡ true) ↔ Paired self.now.n (in_threes self.now.corners.now) }
+    {
+        for (a, &first) in self.head[..self.n].iter().enumerate() {
+            if !self.paired_at(stamp, first as usize, a) {
+                return false;
+            }
+        }
+        true
+    }
 }
 
 // The most corners of the triangles of a face of 16 corners, of 64, and of as many as are checked: a face of n corners has n - 2 triangles.
@@ -181,11 +181,9 @@ fn paired_within<const N: usize, const M: usize>(corners: &[u32], n: usize) -> b
     requires room { (n ≤ N) × (N ≤ most_checked_corners) × (length corners.now ≤ M) × (M ≤ 3 * most_checked_triangles) }
     ensures { (result ≡ true) ↔ Paired n (in_threes corners.now) }
 {
-    let m = corners.len();
-    let mut head = [0u16; N];
+    let chains = Chains::<N, M>::new(corners, n);
     let mut stamp = [0u16; N];
-    let mut next = [0u16; M];
-    paired_in(&mut head[..n], &mut stamp[..n], &mut next[..m], corners, n)
+    chains.paired(&mut stamp[..n])
 }
 
 // Whether triangles, three corners each, are a cut of a face of n corners.

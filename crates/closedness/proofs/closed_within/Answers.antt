@@ -7,7 +7,12 @@ use Rattle.closedness.proofs.closed_within.Goals as goal
 
 pub invariant_of-chains : goal.invariant_of-chains
 invariant_of-chains g c =
-    record { few = omega arith; first = (zeros 256).zero; back = λ p. omega (arith, (zeros g.row.N).zero p); codes = λ p. omega (arith, (zeros g.row.N).zero p) }
+    record {
+      few = omega arith;
+      first = (zeros 256).zero;
+      back = λ p. omega (arith, (zeros g.row.N).zero p);
+      codes = λ p. omega (arith, (zeros g.row.N).zero p);
+    }
 
 pub returns : goal.returns
 returns g c =

@@ -1,5 +1,5 @@
--- `closedness::Chains::link_face` meets its contract: after i turns the first i sides are linked, and the side at i runs from corner i to the
--- next.
+-- `closedness::Chains::link_face` meets its contract: after i turns the first i sides are linked, and the side at i runs from corner i to
+-- the next.
 use mathlib.Core.Path.{refl}
 use native.Mathlib.Omega.{arith}
 use Rattle.closedness.proofs.Linked.{face_none, face_more, face_whole}

@@ -1,5 +1,5 @@
--- `closedness::Chains::link_faces` meets its contract: after j turns the sides of the first j faces are linked, and face j runs from the end
--- before it to its own.
+-- `closedness::Chains::link_faces` meets its contract: after j turns the sides of the first j faces are linked, and face j runs from the
+-- end before it to its own.
 use mathlib.Core.Path.{refl}
 use Prim.Native.Nat.{◌<◌}
 use native.Mathlib.Omega.{arith}

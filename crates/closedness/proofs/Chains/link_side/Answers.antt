@@ -1,5 +1,5 @@
--- `closedness::Chains::link_side` meets its contract: the side's place comes before the first of the chain of its lower end, with the side's
--- code; a side from a vertex to itself is in no chain.
+-- `closedness::Chains::link_side` meets its contract: the side's place comes before the first of the chain of its lower end, with the
+-- side's code; a side from a vertex to itself is in no chain.
 use native.Mathlib.Omega.{arith}
 use Rattle.closedness.proofs.Linked.{lower_min, lists_one}
 use Rattle.closedness.proofs.Chains.link_side.Goals as goal

@@ -1,5 +1,5 @@
--- `closedness::Chains::tally_chain` meets its contract: what is left of the chain makes, with the tally, the whole chain; and since the chain
--- goes on at an earlier place each time, no entry and no gap can exceed the place it started from.
+-- `closedness::Chains::tally_chain` meets its contract: what is left of the chain makes, with the tally, the whole chain; and since the
+-- chain goes on at an earlier place each time, no entry and no gap can exceed the place it started from.
 use mathlib.Core.Path.{refl}
 use Prim.Native.Nat.{◌-◌, ◌<◌}
 use native.Mathlib.Omega.{arith}

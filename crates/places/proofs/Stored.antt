@@ -5,6 +5,7 @@ use mathlib.Core.List.{List, [], ◌∷◌, ◌++◌}
 use Prim.Native.Nat.{ℕ, zero, suc, ◌+◌, ◌*◌, ◌/◌, ◌%◌, ◌<◌}
 use native.Mathlib.Omega.{arith}
 use lib.ListN.{length, get_or, set, take, drop, length-append}
+use Rattle.std.specs.Simd.{first_chunks}
 use Rattle.places.specs.Lists.{Each}
 use Rattle.places.specs.Stored.{in_threes, in_pairs, joined}
 use Rattle.places.specs.Steps.{over_threes, over_pairs}
@@ -23,6 +24,24 @@ module _ {A : Type 0} where
   length_pairs [] = refl
   length_pairs (a ∷ []) = refl
   length_pairs (a ∷ b ∷ l) = omega (arith, length_pairs l)
+
+  -- the chunks in which std reads a list are its points
+  pub threes_chunks : (l : List A) → first_chunks 3 (length l / 3) l ≡ in_threes l
+  unfolding in_threes
+  threes_chunks [] = refl
+  threes_chunks (a ∷ []) = refl
+  threes_chunks (a ∷ b ∷ []) = refl
+  threes_chunks (a ∷ b ∷ c ∷ l) =
+      let one_more : suc (suc (suc (length l))) / 3 ≡ suc (length l / 3) = omega arith in
+      rw (one_more, threes_chunks l)
+
+  pub pairs_chunks : (l : List A) → first_chunks 2 (length l / 2) l ≡ in_pairs l
+  unfolding in_pairs
+  pairs_chunks [] = refl
+  pairs_chunks (a ∷ []) = refl
+  pairs_chunks (a ∷ b ∷ l) =
+      let one_more : suc (suc (length l)) / 2 ≡ suc (length l / 2) = omega arith in
+      rw (one_more, pairs_chunks l)
 
   -- the point at place i has the three numbers from 3 i on, or the two from 2 i on
   pub threes_at : (l : List A) (i : ℕ) (d : A) → i < length l / 3

@@ -1,2 +1,3 @@
+pub mod Coordinates
 pub mod Corners
 pub mod Boxes

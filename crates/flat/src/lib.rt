@@ -1,11 +1,11 @@
 // Flat rules: the leaves on two and three points, and lists of points of space. The crate `outline` has lists of points of the plane.
 #![tactic(auto)]
 
+pub mod points;
 pub mod space;
 
 ghost use Rattle.std.specs.Prelude.{◌≡◌};
-ghost use Rattle.flat.specs.Points.{plus_of, minus_of, over_of, widen_of, scale_of};
-ghost use Rattle.flat.specs.Steps.{Numbers};
+ghost use Rattle.flat.specs.Points.{plus_of, minus_of, over_of, scale_of};
 ghost use Rattle.flat.specs.Flat.{cross2_of, newell_side, axis_of, project2_of, area_side, crossing_of};
 
 // (b - a) x (c - a).
@@ -35,18 +35,20 @@ pub fn area_side(a: [f64; 2], b: [f64; 2], s: f64) -> f64
 
 // The axis along which a normal is longest, the earlier one on a tie.
 // Ruled out: `>` for `>=`, which takes the later one on a tie; comparing the parts with their signs, which passes over a long negative one.
+#[tactic(auto, unfolding(crate::specs::Flat::axis_of))]
 pub fn dominant_axis(n: [f64; 3]) -> usize
     ensures { result ≡ axis_of n }
 {
     let x = floats::magnitude(n[0]);
     let y = floats::magnitude(n[1]);
     let z = floats::magnitude(n[2]);
-    if x >= y {
-        if x >= z {
-            return 0;
-        }
+    if x >= y && x >= z {
+        0
+    } else if y >= z {
+        1
+    } else {
+        2
     }
-    if y >= z { 1 } else { 2 }
 }
 
 // The point without that axis.
@@ -78,11 +80,31 @@ pub fn segment_intersection(a: [f64; 2], b: [f64; 2], p: [f64; 2], q: [f64; 2]) 
     [a[0] + t * dax, a[1] + t * day]
 }
 
-// Points of space: s + p, p - q, and p with each coordinate divided by n.
+// Points of the plane or of space: s + p, and p with each coordinate divided by n.
+// Ruled out: p taken off; each coordinate multiplied.
+pub fn plus<const N: usize>(p: [f64; N], mut s: [f64; N]) -> [f64; N]
+    ensures { result ≡ plus_of N p.entry s.entry }
+{
+    for k in 0..N {
+        s[k] = s[k] + p[k];
+    }
+    s
+}
+
+pub fn over<const N: usize>(mut p: [f64; N], n: f64) -> [f64; N]
+    ensures { result ≡ over_of N p.entry n }
+{
+    for x in p.iter_mut() {
+        *x /= n;
+    }
+    p
+}
+
+// The same in space, and p - q.
 pub fn plus3(p: [f64; 3], s: [f64; 3]) -> [f64; 3]
     ensures { result ≡ plus_of 3 p s }
 {
-    [s[0] + p[0], s[1] + p[1], s[2] + p[2]]
+    plus(p, s)
 }
 
 pub fn minus3(p: [f64; 3], q: [f64; 3]) -> [f64; 3]
@@ -94,36 +116,14 @@ pub fn minus3(p: [f64; 3], q: [f64; 3]) -> [f64; 3]
 pub fn over3(p: [f64; 3], n: f64) -> [f64; 3]
     ensures { result ≡ over_of 3 p n }
 {
-    [p[0] / n, p[1] / n, p[2] / n]
-}
-
-// A box widened so that p is in it. No coordinate of the box is a NaN, so that each takes one comparison.
-fn widen3(p: [f64; 3], b: [[f64; 3]; 2]) -> [[f64; 3]; 2]
-    requires { Numbers 3 b }
-    ensures { result ≡ widen_of 3 p b }
-{
-    let low = b[0];
-    let high = b[1];
-    [
-        [
-            floats::lesser(low[0], p[0]),
-            floats::lesser(low[1], p[1]),
-            floats::lesser(low[2], p[2]),
-        ],
-        [
-            floats::greater(high[0], p[0]),
-            floats::greater(high[1], p[1]),
-            floats::greater(high[2], p[2]),
-        ],
-    ]
+    over(p, n)
 }
 
 // The longest side of a box.
 pub fn scale(b: [[f64; 3]; 2]) -> f64
     ensures { result ≡ scale_of b }
 {
-    let low = b[0];
-    let high = b[1];
+    let [low, high] = b;
     let x = high[0] - low[0];
     let y = high[1] - low[1];
     let z = high[2] - low[2];

@@ -8,6 +8,8 @@ ghost use Rattle.flat.specs.Points.{vertices_of, vertex_of, corners_of, centroid
 ghost use Rattle.flat.specs.Steps.{Inside};
 ghost use Rattle.flat.specs.Flat.{newell_of, point_of};
 
+use super::points;
+
 // The vertex with a number.
 pub fn vertex(coords: &[f64], v: usize) -> [f64; 3]
     requires { v < length (vertices_of coords.now) }
@@ -58,20 +60,17 @@ pub fn face_normal(coords: &[f64], face: &[u32]) -> [f64; 3]
     requires { Inside (vertices_of coords.now) face.now }
     ensures { result ≡ newell_of (corners_of (vertices_of coords.now) face.now) }
 {
-    let n = face.len();
-    if n == 0 {
-        return [0.0, 0.0, 0.0];
-    }
-    let first = vertex_at(coords, face, 0);
-    let mut s = [0.0, 0.0, 0.0];
+    let Some((&v, rest)) = face.split_first() else {
+        return [0.0; 3];
+    };
+    let first = vertex(coords, v as usize);
+    let mut s = [0.0; 3];
     let mut a = first;
-    let mut i = 1;
-    while i < n {
-        let b = vertex_at(coords, face, i);
+    for &v in rest {
+        let b = vertex(coords, v as usize);
         let t = crate::newell_side(a, b, s);
         s = t;
         a = b;
-        i += 1;
     }
     crate::newell_side(a, first, s)
 }
@@ -80,16 +79,12 @@ pub fn face_normal(coords: &[f64], face: &[u32]) -> [f64; 3]
 pub fn newell_normal(coords: &[f64]) -> [f64; 3]
     ensures { result ≡ newell_of (vertices_of coords.now) }
 {
-    let mut s = [0.0, 0.0, 0.0];
-    let n = coords.len() / 3;
-    let mut i = 0;
-    while i < n {
-        let a = vertex(coords, i);
-        let j = places::next(i, n);
-        let b = vertex(coords, j);
+    let (points, _) = coords.as_chunks::<3>();
+    let mut s = [0.0; 3];
+    for (i, &a) in points.iter().enumerate() {
+        let b = points[places::next(i, points.len())];
         let t = crate::newell_side(a, b, s);
         s = t;
-        i += 1;
     }
     s
 }
@@ -98,7 +93,7 @@ pub fn newell_normal(coords: &[f64]) -> [f64; 3]
 pub fn count(n: u16) -> f64
     ensures { result ≡ of_int binary64 (pos n) }
 {
-    n as f64
+    f64::from(n)
 }
 
 // The vertex centroid: the points added in order, and each coordinate divided by their number.
@@ -106,29 +101,12 @@ pub fn vertex_centroid(coords: &[f64]) -> [f64; 3]
     requires { length coords.now ≤ most_coordinates }
     ensures { result ≡ centroid_of 3 (vertices_of coords.now) }
 {
-    let n = coords.len() / 3;
-    let mut s = [0.0, 0.0, 0.0];
-    let mut i = 0;
-    while i < n {
-        let t = crate::plus3(vertex(coords, i), s);
-        s = t;
-        i += 1;
-    }
-    crate::over3(s, count(n as u16))
+    points::centroid(coords.as_chunks::<3>().0)
 }
 
 // The smallest box that has the points: its corner of least and that of largest coordinates.
 pub fn bounds(coords: &[f64]) -> [[f64; 3]; 2]
     ensures { result ≡ bounds_of 3 (vertices_of coords.now) }
 {
-    let n = coords.len() / 3;
-    let top = 1.0 / 0.0;
-    let mut b = [[top, top, top], [-top, -top, -top]];
-    let mut i = 0;
-    while i < n {
-        let t = crate::widen3(vertex(coords, i), b);
-        b = t;
-        i += 1;
-    }
-    b
+    points::bounds(coords.as_chunks::<3>().0)
 }

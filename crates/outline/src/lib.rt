@@ -4,37 +4,10 @@
 ghost use Rattle.std.specs.Prelude.{◌≡◌, ℕ, ◌<◌, ◌≤◌, ◌%◌, length, get_or, set, [], reverse};
 ghost use Rattle.places.specs.Steps.{swapped, over_pairs};
 ghost use Rattle.places.specs.Stored.{in_pairs, joined};
-ghost use Rattle.flat.specs.Points.{plus_of, over_of, widen_of, centroid_of, bounds_of};
-ghost use Rattle.flat.specs.Steps.{Numbers};
+ghost use Rattle.flat.specs.Points.{centroid_of, bounds_of};
 ghost use Rattle.flat.specs.Flat.{summed_area_of, signed_area_of, ccw_of};
 
-// Points of the plane: s + p, p with each coordinate divided by n, and a box, of which no coordinate is a NaN, widened so that p is in it.
-fn plus2(p: [f64; 2], s: [f64; 2]) -> [f64; 2]
-    ensures { result ≡ plus_of 2 p s }
-{
-    [s[0] + p[0], s[1] + p[1]]
-}
-
-fn over2(p: [f64; 2], n: f64) -> [f64; 2]
-    ensures { result ≡ over_of 2 p n }
-{
-    [p[0] / n, p[1] / n]
-}
-
-fn widen2(p: [f64; 2], b: [[f64; 2]; 2]) -> [[f64; 2]; 2]
-    requires { Numbers 2 b }
-    ensures { result ≡ widen_of 2 p b }
-{
-    let low = b[0];
-    let high = b[1];
-    [
-        [floats::lesser(low[0], p[0]), floats::lesser(low[1], p[1])],
-        [
-            floats::greater(high[0], p[0]),
-            floats::greater(high[1], p[1]),
-        ],
-    ]
-}
+use flat::points;
 
 // The point at place i.
 pub fn pair(ps: &[f64], i: usize) -> [f64; 2]
@@ -61,15 +34,11 @@ pub fn put_pair(ps: &mut [f64], i: usize, p: [f64; 2])
 fn summed_area(ps: &[f64]) -> f64
     ensures { result ≡ summed_area_of (in_pairs ps.now) }
 {
+    let (points, _) = ps.as_chunks::<2>();
     let mut s = 0.0;
-    let n = ps.len() / 2;
-    let mut i = 0;
-    while i < n {
-        let a = pair(ps, i);
-        let j = places::next(i, n);
-        let b = pair(ps, j);
+    for (i, &a) in points.iter().enumerate() {
+        let b = points[places::next(i, points.len())];
         s = flat::area_side(a, b, s);
-        i += 1;
     }
     s
 }
@@ -97,16 +66,14 @@ fn swap_points(ps: &mut [f64], i: usize, j: usize)
 }
 
 // The points in the other order: each of the first half changes places with the one that is as far from the end.
+// By swaps: std's `as_chunks_mut` says nothing of what the list ends as.
 fn reverse_points(ps: &mut [f64])
     ensures points { in_pairs ps.new ≡ reverse (in_pairs ps.old) }
     ensures over { over_pairs ps.new ≡ over_pairs ps.old }
 {
     let n = ps.len() / 2;
-    let half = n / 2;
-    let mut i = 0;
-    while i < half {
+    for i in 0..n / 2 {
         swap_points(ps, i, n - 1 - i);
-        i += 1;
     }
 }
 
@@ -126,15 +93,7 @@ pub fn vertex_centroid2(ps: &[f64]) -> [f64; 2]
     requires { length ps.now ≤ 1024 }
     ensures { result ≡ centroid_of 2 (in_pairs ps.now) }
 {
-    let n = ps.len() / 2;
-    let mut s = [0.0, 0.0];
-    let mut i = 0;
-    while i < n {
-        let t = plus2(pair(ps, i), s);
-        s = t;
-        i += 1;
-    }
-    over2(s, flat::space::count(n as u16))
+    points::centroid(ps.as_chunks::<2>().0)
 }
 
 // The corner of least coordinates and that of largest.
@@ -142,14 +101,5 @@ pub fn vertex_centroid2(ps: &[f64]) -> [f64; 2]
 pub fn bounds2(ps: &[f64]) -> [[f64; 2]; 2]
     ensures { result ≡ bounds_of 2 (in_pairs ps.now) }
 {
-    let n = ps.len() / 2;
-    let top = 1.0 / 0.0;
-    let mut b = [[top, top], [-top, -top]];
-    let mut i = 0;
-    while i < n {
-        let t = widen2(pair(ps, i), b);
-        b = t;
-        i += 1;
-    }
-    b
+    points::bounds(ps.as_chunks::<2>().0)
 }

@@ -1,7 +1,7 @@
 -- The tally along a chain, for `tally_chain`, and over all chains, for `is_even`: what is left of the chain makes, with the tally, the
 -- whole; and after a chain whose gap is 0 the vertex has as many sides up as down to each other vertex.
 use mathlib.Core.Path.{◌≡◌, refl, sym, ◌∙◌}
-use mathlib.Core.Bool.{true, false}
+use mathlib.Core.Bool.{false}
 use mathlib.Core.List.{List, [], ◌∷◌}
 use Prim.Native.Nat.{ℕ, ◌+◌, ◌*◌, ◌-◌, ◌<◌, ◌≤◌}
 use native.Mathlib.Decide.{ℕ_discrete}
@@ -39,9 +39,6 @@ rising_more {n} {h} {h'} {c} {t₀} {t} {t'} r g d e =
       most = λ j. rw e (omega (arith, r.most j, more_at t c j within, one_at_most (eqb c j)));
     }
 
-pub rising_end : {n h : ℕ} {t₀ t : List ℕ} → Rising n t₀ h t → Raised n t₀ t
-rising_end r = record { size = r.size; most = λ c. omega (arith, r.most c) }
-
 -- ---- what is left of a chain with the codes cs, from h on, makes with the tally t the whole
 pub record Rest (next other : List ℕ) (h : ℕ) (cs t₀ t : List ℕ) : Type 0 where
   pub left : List ℕ
@@ -74,9 +71,6 @@ module _ {next other : List ℕ} {h : ℕ} {cs t₀ t : List ℕ} where
           → Tallied cs t₀ t
       go [] k s = record { counts = λ j b. omega (arith, s j b) }
       go (x ∷ l) k s = let above : 0 < h = k.0 in absurd (omega arith)
-
-pub rest_start : {next other cs t : List ℕ} {h : ℕ} → Chain next other h cs → Rest next other h cs t t
-rest_start {next} {other} {cs} {t} {h} k = record { left = cs; chain = k; so = λ c b. refl }
 
 -- ---- after the chains of the vertices below m no entry is higher than they allow, and there is no gap
 pub record Level (m : ℕ) (t : List ℕ) : Type 0 where
@@ -132,6 +126,3 @@ module _ (m : ℕ) (l : List (ℕ × ℕ)) {t t' : List ℕ} (z : gap_of t ≡ 0
 -- the answer
 pub even_no : {v : ℕ} {l : List (ℕ × ℕ)} → Uneven l → Even v l false
 even_no u = record { yes = λ e m j h g. absurd (let z : ◌≡◌ {A = ℕ} 0 1 = cc in omega arith); no = λ e. u }
-
-pub even_yes : {v m : ℕ} (l : List (ℕ × ℕ)) → EvenBelow m l → v ≤ m → Even v l true
-even_yes l t h = record { yes = λ e i j b g. t i j (omega arith) g; no = λ e. absurd (let z : ◌≡◌ {A = ℕ} 0 1 = cc in omega arith) }

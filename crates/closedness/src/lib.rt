@@ -27,6 +27,7 @@ fn opposite(c: usize) -> usize
 }
 
 // One more side with the code c. The gap, by which the tally has more sides one way than the other, comes back as it is then.
+#[tactic(auto, using(crate::proofs::Gap::gap_narrows, crate::proofs::Gap::gap_widens))]
 fn raise(tally: &mut [u32], c: usize, gap: usize) -> usize
     requires tally_len { (length tally.old ≡ 512) × (c < 512) × (get_or tally.old c 0 < 4294967295) }
     requires gap_value { (gap ≡ gap_of tally.old) × (gap < 4294967295) }

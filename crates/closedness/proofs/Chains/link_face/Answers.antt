@@ -16,5 +16,5 @@ loop-i-preserved g c = record {
       face_more (c.loop-i.invariant.linked l t) (omega arith) c.corner-a.ensures.0 (cc) c.link_side.ensures.gains;
 }
 
-pub returns : goal.returns
-returns g c = record { taken = omega arith; gains = λ l t. face_whole (c.loop-i.invariant.linked l t) (omega arith) }
+pub returns-clause-gains : goal.returns-clause-gains
+returns-clause-gains g c l t = face_whole (c.loop-i.invariant.linked l t) (omega arith)

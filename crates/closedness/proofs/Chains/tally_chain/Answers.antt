@@ -4,7 +4,7 @@ use mathlib.Core.Path.{refl}
 use Prim.Native.Nat.{◌-◌, ◌<◌}
 use native.Mathlib.Omega.{arith}
 use lib.ListN.{get_or}
-use Rattle.closedness.proofs.Tallying.{rising_more, rising_end, rest_more, rest_end}
+use Rattle.closedness.proofs.Tallying.{rising_more, rest_more, rest_end}
 use Rattle.closedness.proofs.Chains.tally_chain.Goals as goal
 
 pub loop-h-preserved : goal.loop-h-preserved
@@ -22,9 +22,5 @@ loop-h-preserved g c =
           c.raise-gap.ensures.0;
     }
 
-pub returns : goal.returns
-returns g c =
-    record {
-      value = (c.loop-h.invariant.gap_is, rising_end c.loop-h.invariant.rising);
-      by_index = λ cs k. rest_end (c.loop-h.invariant.rest cs k) (omega arith);
-    }
+pub returns-clause-by_index : goal.returns-clause-by_index
+returns-clause-by_index g c cs k = rest_end (c.loop-h.invariant.rest cs k) (omega arith)

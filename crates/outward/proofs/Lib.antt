@@ -1,5 +1,4 @@
 pub mod Parting
-pub mod Seeing
 pub mod Stretches
 pub mod Outward
 pub mod Computed

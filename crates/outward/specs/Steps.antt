@@ -1,6 +1,5 @@
 -- What functions below the gatehouse ask of and promise each other; no contract of a public entry speaks of these.
-use Rattle.std.specs.Prelude.{Bool, true, ◌&&◌, cond, Float}
-use Rattle.std.specs.Bool.{beq}
+use Rattle.std.specs.Prelude.{true, cond, Float}
 use Rattle.flat.specs.Points.{Point}
 use Rattle.outward.specs.Convexity.{above, below}
 use Rattle.outward.specs.declared.Seen.{Seen}
@@ -12,7 +11,3 @@ see_of n d eps p seen =
       above = cond (above n d eps p) true seen.above;
       below = cond (below n d eps p) true seen.below;
     }
-
--- whether the same was seen
-abbrev pub same_seen : Seen → Seen → Bool
-same_seen a b = beq a.above b.above && beq a.below b.below

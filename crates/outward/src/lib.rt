@@ -1,7 +1,7 @@
 // Convexity of a cell, and its faces turned outward.
 #![tactic(auto)]
 
-ghost use Rattle.std.specs.Prelude.{◌≡◌, Bool, false, ◌&&◌, cond, ℕ, ◌<◌, length};
+ghost use Rattle.std.specs.Prelude.{◌≡◌, false, cond, ◌<◌, length};
 ghost use Rattle.places.specs.Loops.{any_of};
 ghost use Rattle.flat.specs.Points.{vertices_of, vertex_of};
 ghost use Rattle.flat.specs.Steps.{Inside};
@@ -10,10 +10,10 @@ ghost use Rattle.cell.specs.Refusals.{empty_refused};
 ghost use Rattle.cell.specs.Steps.{Sound};
 ghost use Rattle.outward.specs.Convexity.{tolerance_of, has_corner, other_vertices, plane_parts, face_parts, compute_convexity_of};
 ghost use Rattle.outward.specs.Outward.{away_of, outward_of, outward_corners};
-ghost use Rattle.outward.specs.Steps.{see_of, same_seen};
+ghost use Rattle.outward.specs.Steps.{see_of};
 
 // What was seen of the vertices against a plane: one above it, one below it.
-#[derive(Clone, Copy)]
+#[derive(Clone, Copy, PartialEq)]
 struct Seen {
     above: bool,
     below: bool,
@@ -33,15 +33,7 @@ fn tolerance(n: [f64; 3]) -> f64
 fn has_corner(face: &[u32], v: usize) -> bool
     ensures { result ≡ has_corner face.now v }
 {
-    let n = face.len();
-    let mut i = 0;
-    while i < n {
-        if v == places::corner(face, i) {
-            return true;
-        }
-        i += 1;
-    }
-    false
+    face.iter().any(|&corner| v == corner as usize)
 }
 
 // What is seen when p is looked at besides.
@@ -64,55 +56,31 @@ fn see(n: [f64; 3], d: f64, eps: f64, p: [f64; 3], seen: Seen) -> Seen
     seen
 }
 
-// Whether the same was seen.
-fn same(a: Seen, b: Seen) -> bool
-    ensures { result ≡ same_seen a b }
-{
-    if a.above == b.above {
-        a.below == b.below
-    } else {
-        false
-    }
-}
-
 // The same for the vertex v; a corner of the face is passed over. The face is searched only where something new was seen, which is seldom.
 fn look(coords: &[f64], face: &[u32], v: usize, n: [f64; 3], d: f64, eps: f64, seen: Seen) -> Seen
     requires { v < length (vertices_of coords.now) }
     ensures { result ≡ cond (has_corner face.now v) seen (see_of n d eps (vertex_of (vertices_of coords.now) v) seen) }
 {
     let next = see(n, d, eps, flat::space::vertex(coords, v), seen);
-    if same(next, seen) {
-        return seen;
-    }
-    if has_corner(face, v) {
+    if next == seen || has_corner(face, v) {
         return seen;
     }
     next
-}
-
-// Whether both were seen.
-fn both(seen: Seen) -> bool
-    ensures { result ≡ (seen.above && seen.below) }
-{
-    if seen.above { seen.below } else { false }
 }
 
 // Whether a plane parts the vertices that are no corners of the face. The loop ends as soon as one of each side was seen.
 fn plane_parts(coords: &[f64], face: &[u32], n: [f64; 3], d: f64, eps: f64) -> bool
     ensures { result ≡ plane_parts n d eps (other_vertices (vertices_of coords.now) face.now) }
 {
-    let count = coords.len() / 3;
     let mut seen = Seen {
         above: false,
         below: false,
     };
-    let mut v = 0;
-    while v < count {
+    for v in 0..coords.len() / 3 {
         seen = look(coords, face, v, n, d, eps, seen);
-        if both(seen) {
+        if seen.above && seen.below {
             return true;
         }
-        v += 1;
     }
     false
 }
@@ -135,17 +103,14 @@ fn any_parts(coords: &[f64], corners: &[u32], ends: &[u32]) -> bool
     requires { Sound coords.now corners.now ends.now }
     ensures { result ≡ any_of (face_parts (vertices_of coords.now)) (faces_of corners.now ends.now) }
 {
-    let n = ends.len();
     let mut start = 0;
-    let mut k = 0;
-    while k < n {
-        let end = places::corner(ends, k);
+    for &end in ends {
+        let end = end as usize;
         let face = cell::face(corners, start, end);
         if face_parts(coords, face) {
             return true;
         }
         start = end;
-        k += 1;
     }
     false
 }
@@ -181,7 +146,7 @@ fn face_outward(coords: &[f64], face: &mut [u32], reference: [f64; 3])
     ensures { face.new ≡ outward_of (vertices_of coords.now) reference face.old }
 {
     if away(coords, face, reference) < 0.0 {
-        places::reverse_corners(face);
+        face.reverse();
     }
 }
 
@@ -194,13 +159,10 @@ pub fn into_ccw(coords: &[f64], corners: &mut [u32], ends: &[u32])
     ensures { corners.new ≡ outward_corners (vertices_of coords.now) (faces_of corners.old ends.now) }
 {
     let reference = flat::space::vertex_centroid(coords);
-    let n = ends.len();
     let mut start = 0;
-    let mut k = 0;
-    while k < n {
-        let end = places::corner(ends, k);
+    for &end in ends {
+        let end = end as usize;
         face_outward(coords, &mut corners[start..end], reference);
         start = end;
-        k += 1;
     }
 }

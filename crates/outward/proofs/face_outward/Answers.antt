@@ -5,7 +5,7 @@ use Rattle.outward.proofs.face_outward.Goals as goal
 pub returns-then-away : goal.returns-then-away
 unfolding outward_of
 returns-then-away c =
-    rw (← c.away.ensures, c.if-away.true) c.reverse_corners.ensures
+    rw (← c.away.ensures, c.if-away.true) c.reverse.ensures.after
 
 pub returns-else-away : goal.returns-else-away
 unfolding outward_of

@@ -1,6 +1,3 @@
-use mathlib.Core.Path.{◌≡◌}
-use Prim.Native.Nat.{◌-◌}
-use lib.ListN.{length}
 use Rattle.flat.specs.Points.{vertices_of}
 use Rattle.outward.specs.Convexity.{other_vertices, plane_parts}
 use Rattle.outward.proofs.Parting.{Parting}
@@ -9,7 +6,4 @@ use Rattle.outward.proofs.plane_parts.Given as goal
 abbrev pub invariant-loop-v : goal.invariant-loop-v
 invariant-loop-v l =
     let vs = vertices_of l.coords in
-    (l.count ≡ length vs) × Parting l.n l.d l.eps l.face vs (plane_parts l.n l.d l.eps (other_vertices vs l.face)) l.v l.seen
-
-abbrev pub decreases-loop-v : goal.decreases-loop-v
-decreases-loop-v l = l.count - l.v
+    Parting l.n l.d l.eps l.face vs (plane_parts l.n l.d l.eps (other_vertices vs l.face)) l.v l.seen

@@ -1,4 +1,4 @@
-pub mod Laying
+pub mod Flattened
 pub mod Tables
 pub mod Wedge
 pub mod Worked

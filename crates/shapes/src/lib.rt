@@ -2,9 +2,9 @@
 // tables. Any bits are taken, and nothing is refused.
 #![tactic(auto)]
 
-ghost use Rattle.std.specs.Prelude.{◌≡◌, [], ℕ, ◌*◌, ◌<◌, length, get_or, set};
+ghost use Rattle.std.specs.Prelude.{◌≡◌, [], ◌*◌, length};
 ghost use Rattle.places.specs.Lists.{Each};
-ghost use Rattle.flat.specs.Points.{vertices_of, vertex_of};
+ghost use Rattle.flat.specs.Points.{vertices_of};
 ghost use Rattle.flat.specs.Steps.{Inside};
 ghost use Rattle.shapes.specs.Shapes.{tet_volume_of, tet_by, volume_by, wedge_volume_of, hex_volume_of, tet_contains_of, wedge_contains_of};
 ghost use Rattle.shapes.specs.Shapes.{hex_contains_of};
@@ -49,27 +49,13 @@ pub fn tet_volume(a: [f64; 3], b: [f64; 3], c: [f64; 3], d: [f64; 3]) -> f64
     volume::triple_product(flat::minus3(b, a), flat::minus3(c, a), flat::minus3(d, a)) / 6.0
 }
 
-// The corner whose number stands at place k of a row.
-fn corner(ps: &[[f64; 3]], row: [usize; 4], k: usize) -> [f64; 3]
-    requires inside { Inside ps.now row }
-    requires k_bound { k < 4 }
-    ensures { result ≡ vertex_of ps.now (get_or row k 0) }
-{
-    let v = row[k];
-    ps[v]
-}
-
 // The volume of the tetrahedron whose corners have the numbers of a row.
 fn tet_by(ps: &[[f64; 3]], row: [usize; 4]) -> f64
     requires { Inside ps.now row }
     ensures { result ≡ tet_by ps.now row }
 {
-    tet_volume(
-        corner(ps, row, 0),
-        corner(ps, row, 1),
-        corner(ps, row, 2),
-        corner(ps, row, 3),
-    )
+    let [a, b, c, d] = row;
+    tet_volume(ps[a], ps[b], ps[c], ps[d])
 }
 
 // The volumes of the tetrahedra of a table, added in order.
@@ -77,13 +63,9 @@ fn volume_by(ps: &[[f64; 3]], table: &[[usize; 4]]) -> f64
     requires { Each [] (Inside ps.now) table.now }
     ensures { result ≡ volume_by table.now ps.now }
 {
-    let n = table.len();
     let mut v = 0.0;
-    let mut i = 0;
-    while i < n {
-        let row = table[i];
+    for &row in table {
         v += tet_by(ps, row);
-        i += 1;
     }
     v
 }
@@ -107,17 +89,11 @@ pub fn hex_volume(p: [[f64; 3]; 8]) -> f64
 }
 
 // Points as the ray test reads them: the numbers of one after those of another.
-fn lay(coords: &mut [f64], ps: &[[f64; 3]])
-    requires { length coords.old ≡ length ps.now * 3 }
-    ensures { vertices_of coords.new ≡ ps.now }
+fn numbers(ps: &[[f64; 3]]) -> &[f64]
+    ensures vertices { vertices_of result.now ≡ ps.now }
+    ensures long { length result.now ≡ length ps.now * 3 }
 {
-    let n = ps.len();
-    let mut i = 0;
-    while i < n {
-        let p = ps[i];
-        flat::space::put_vertex(coords, i, p);
-        i += 1;
-    }
+    ps.as_flattened()
 }
 
 // Whether a tetrahedron contains the point: an odd number of its faces is crossed.
@@ -125,9 +101,8 @@ fn lay(coords: &mut [f64], ps: &[[f64; 3]])
 pub fn tet_contains(point: [f64; 3], p: [[f64; 3]; 4]) -> bool
     ensures { result ≡ tet_contains_of point p }
 {
-    let mut coords = [0.0; 12];
-    lay(&mut coords, &p);
-    inside::contains(&coords, &TET4_FACES, &TET4_ENDS, point)
+    let coords = numbers(&p);
+    inside::contains(coords, &TET4_FACES, &TET4_ENDS, point)
 }
 
 // Whether a wedge contains the point: of the two counts, that of its quadrilaterals and that of its triangles, exactly one is odd.
@@ -136,10 +111,9 @@ pub fn tet_contains(point: [f64; 3], p: [[f64; 3]; 4]) -> bool
 pub fn wedge_contains(point: [f64; 3], p: [[f64; 3]; 6]) -> bool
     ensures { result ≡ wedge_contains_of point p }
 {
-    let mut coords = [0.0; 18];
-    lay(&mut coords, &p);
-    let quads = inside::contains(&coords, &WEDGE6_QUAD_FACES, &WEDGE6_QUAD_ENDS, point);
-    let triangles = inside::contains(&coords, &WEDGE6_TRI_FACES, &WEDGE6_TRI_ENDS, point);
+    let coords = numbers(&p);
+    let quads = inside::contains(coords, &WEDGE6_QUAD_FACES, &WEDGE6_QUAD_ENDS, point);
+    let triangles = inside::contains(coords, &WEDGE6_TRI_FACES, &WEDGE6_TRI_ENDS, point);
     quads != triangles
 }
 
@@ -148,7 +122,6 @@ pub fn wedge_contains(point: [f64; 3], p: [[f64; 3]; 6]) -> bool
 pub fn hex_contains(point: [f64; 3], p: [[f64; 3]; 8]) -> bool
     ensures { result ≡ hex_contains_of point p }
 {
-    let mut coords = [0.0; 24];
-    lay(&mut coords, &p);
-    inside::contains(&coords, &HEX8_FACES, &HEX8_ENDS, point)
+    let coords = numbers(&p);
+    inside::contains(coords, &HEX8_FACES, &HEX8_ENDS, point)
 }

@@ -4,16 +4,16 @@ use mathlib.Core.Path.{refl}
 use mathlib.Core.List.{[]}
 use Rattle.places.proofs.Loops.{take_start, take_next, take_end}
 use Rattle.shapes.specs.Shapes.{volume_by}
-use borrow.Author.Rules.{rules}
+use native.Mathlib.Omega.{arith}
 use Rattle.shapes.proofs.volume_by.Goals as goal
 
-pub loop-i-init : goal.loop-i-init
+pub loop-row-init : goal.loop-row-init
 unfolding volume_by
-loop-i-init c = take_start refl
+loop-row-init c = take_start refl
 
-pub loop-i-preserved : goal.loop-i-preserved
-loop-i-preserved c =
-    take_next [] c.loop-i.invariant (search rules) (cc)
+pub loop-row-preserved : goal.loop-row-preserved
+loop-row-preserved c =
+    take_next [] c.loop-row.invariant (omega arith) (cc)
 
 pub returns : goal.returns
-returns c = take_end c.loop-i.invariant (search rules)
+returns c = take_end c.loop-row.invariant (omega arith)

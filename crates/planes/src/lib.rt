@@ -27,6 +27,7 @@ pub struct PlaneOrNone {
 }
 
 // The product n · p.
+#[tactic(auto, unfolding(crate::specs::Planes::dot_of))]
 pub fn dot(n: [f64; 3], p: [f64; 3]) -> f64
     ensures { result ≡ dot_of n p }
 {
@@ -34,6 +35,7 @@ pub fn dot(n: [f64; 3], p: [f64; 3]) -> f64
 }
 
 // The offset of the plane n · x + d = 0 through p.
+#[tactic(auto, unfolding(crate::specs::Planes::offset_of))]
 pub fn offset(n: [f64; 3], p: [f64; 3]) -> f64
     ensures { result ≡ offset_of n p }
 {
@@ -42,6 +44,7 @@ pub fn offset(n: [f64; 3], p: [f64; 3]) -> f64
 
 // The plane n · x + d = 0 with its normal brought to length 1.
 // Ruled out: an offset left on its side, d for -d; a norm that is the root of the three squares' sum, which rounds otherwise.
+#[tactic(auto, unfolding(crate::specs::Planes::unit_plane))]
 fn unit_plane(n: [f64; 3], d: f64) -> Plane
     ensures { result ≡ unit_plane n d }
 {
@@ -64,6 +67,7 @@ fn all_zero(n: [f64; 3]) -> bool
 
 // Whether a face has no area.
 // Ruled out: a face whose norm alone underflows; a face of two corners read as one with area.
+#[tactic(auto, unfolding(crate::specs::Planes::has_no_area))]
 pub fn has_no_area(coords: &[f64], face: &[u32]) -> bool
     requires { Inside (vertices_of coords.now) face.now }
     ensures { result ≡ has_no_area (corners_of (vertices_of coords.now) face.now) }
@@ -111,6 +115,7 @@ pub fn plane_of_face(coords: &[f64], face: &[u32]) -> PlaneOrNone
 
 // How far p is beyond a plane.
 // Ruled out: the offset added; the offset taken off before the products are added, which rounds otherwise.
+#[tactic(auto, unfolding(crate::specs::Planes::distance_of, crate::specs::Planes::dot_of))]
 pub fn distance(plane: Plane, p: [f64; 3]) -> f64
     ensures { result ≡ distance_of plane p }
 {
@@ -119,6 +124,7 @@ pub fn distance(plane: Plane, p: [f64; 3]) -> f64
 
 // Whether two planes are the same with the inside on the same side.
 // Ruled out: `>=` for `>`, which lets a normal that is off by just 1e-10 pass; offsets compared with their signs.
+#[tactic(auto, unfolding(crate::specs::Planes::same_side))]
 pub fn plane_same_side(a: Plane, b: Plane, tol: f64) -> bool
     ensures { result ≡ same_side a b tol }
 {
@@ -132,6 +138,7 @@ pub fn plane_same_side(a: Plane, b: Plane, tol: f64) -> bool
 
 // Whether two planes are the same with the inside on opposite sides.
 // Ruled out: the difference of the offsets for their sum; a NaN normal read as not opposite.
+#[tactic(auto, unfolding(crate::specs::Planes::coplanar_opposite))]
 pub fn plane_coplanar_opposite(a: Plane, b: Plane, tol: f64) -> bool
     ensures { result ≡ coplanar_opposite a b tol }
 {
@@ -145,6 +152,7 @@ pub fn plane_coplanar_opposite(a: Plane, b: Plane, tol: f64) -> bool
 
 // The plane at place k.
 // Ruled out: the offset read before the normal; the planes counted from the end.
+#[tactic(auto, using(crate::proofs::Stored::length_fours))]
 pub fn plane_at(planes: &[f64], k: usize) -> Plane
     requires { k < length (in_fours planes.now) }
     ensures { result ≡ get_or (in_fours planes.now) k no_plane }
@@ -163,6 +171,7 @@ pub fn plane_at(planes: &[f64], k: usize) -> Plane
 
 // A plane laid down at place k.
 // Ruled out: the offset laid down before the normal; a store that reaches into the plane after it.
+#[tactic(auto, using(crate::proofs::Stored::length_fours))]
 pub fn put_plane(out: &mut [f64], k: usize, plane: Plane)
     requires { k < length (in_fours out.old) }
     ensures { in_fours out.new ≡ set (in_fours out.old) k plane }

@@ -31,13 +31,12 @@ plane_if_area-requires c =
 pub loop-end-preserved : goal.loop-end-preserved
 loop-end-preserved c =
     let answer = rw c.face-face.ensures at c.plane_if_area.ensures in
+    let laid = c.loop-end.invariant.1 in
     elim c.match-plane_if_area.branch [
-      | in-Some w ↦ rw (w.out-is, w.m-is) (
-        search rules,
-        gather_one c.loop-end.invariant.1 (omega arith) refl (answered_plane _ (sym w.in-Some.is ∙ answer)) w.put_plane.ensures,
-      )
+      | in-Some w ↦ rw (w.out-is, w.m-is)
+          (search rules, gather_one laid (omega arith) refl (answered_plane _ (sym w.in-Some.is ∙ answer)) w.put_plane.ensures)
       | in_default w ↦ rw (w.out-is, w.m-is)
-          (c.loop-end.invariant.0, gather_none c.loop-end.invariant.1 (omega arith) refl (answered_no_area _ (sym w.in_default.is ∙ answer)))
+          (c.loop-end.invariant.0, gather_none laid (omega arith) refl (answered_no_area _ (sym w.in_default.is ∙ answer)))
     ]
 
 pub returns : goal.returns

@@ -23,8 +23,10 @@ pub loop-v-preserved : goal.loop-v-preserved
 loop-v-preserved c =
     let below : c.loop-v.v < length (vertices_of c.args.coords.now) = omega (arith, length_threes c.args.coords.now) in
     elim c.else-seen.branch [
-      | else-seen-via-then-seen+else-seen-2 w ↦ part_no c.loop-v.invariant below c.look-seen.ensures (rw (w.if-seen.true, w.if-seen-2.false))
-      | else-seen-via-else-seen w ↦ part_no c.loop-v.invariant below c.look-seen.ensures (rw w.if-seen.false)
+      | else-seen-via-then-seen+else-seen-2 w ↦
+          part_no c.loop-v.invariant below c.look-seen.ensures (rw (w.if-seen.true, w.if-seen-2.false))
+      | else-seen-via-else-seen w ↦
+          part_no c.loop-v.invariant below c.look-seen.ensures (rw w.if-seen.false)
     ]
 
 pub returns : goal.returns

@@ -1,5 +1,5 @@
--- `shapes::hex_contains` meets its contract: the points' numbers, one after the other, have the points for vertices, and the faces' table makes a
--- sound cell with any 24 coordinates, as it does with 24 zeros.
+-- `shapes::hex_contains` meets its contract: the points' numbers, one after the other, have the points for vertices, and the faces' table
+-- makes a sound cell with any 24 coordinates, as it does with 24 zeros.
 use mathlib.Core.Path.{◌∙◌, refl}
 use borrow.Author.Rules.{rules}
 use Rattle.cell.specs.Faces.{faces_of}

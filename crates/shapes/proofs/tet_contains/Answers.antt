@@ -1,5 +1,5 @@
--- `shapes::tet_contains` meets its contract: the points' numbers, one after the other, have the points for vertices, and the faces' table makes a
--- sound cell with any 12 coordinates, as it does with 12 zeros.
+-- `shapes::tet_contains` meets its contract: the points' numbers, one after the other, have the points for vertices, and the faces' table
+-- makes a sound cell with any 12 coordinates, as it does with 12 zeros.
 use mathlib.Core.Path.{◌∙◌, refl}
 use borrow.Author.Rules.{rules}
 use Rattle.cell.specs.Faces.{faces_of}

@@ -33,6 +33,7 @@ pub fn number_all(number: &mut [u16], corners: &[u32]) -> usize
 }
 
 // Which entry of the table is that for the sides from a to b.
+#[tactic(auto, using(crate::proofs::Numbers::entry_below), unfolding(crate::specs::Numbers::entry_of))]
 pub fn entry(number: &[u16], k: usize, a: usize, b: usize) -> usize
     requires { Known number.now k a × Known number.now k b × (k ≤ most_vertices) }
     ensures { (result ≡ entry_of number.now k a b) × (result < k * k) }

@@ -39,6 +39,7 @@ struct Reached {
 }
 
 // The mark of the face on the other side of f's side from a to b; 0 where a is b.
+#[tactic(auto, unfolding(crate::specs::Steps::neighbour_of))]
 fn neighbour(sides: &SideTable, a: usize, b: usize, f: usize) -> u16
     requires known { Known sides.now.number.now sides.now.k a × Known sides.now.number.now sides.now.k b }
     requires marked { a ≢ b → 0 < first_at (entry_of sides.now.number.now sides.now.k) sides.now.table.now a b }
@@ -133,6 +134,7 @@ fn mark_runs_up(code: &[u8], m: u16) -> bool
 }
 
 // Whether both faces at the side from a to b, where these differ, run it the same way.
+#[tactic(auto, unfolding(crate::specs::Steps::clash))]
 fn clash_side(sides: &SideTable, code: &[u8], a: usize, b: usize) -> bool
     requires known { Known sides.now.number.now sides.now.k a × Known sides.now.number.now sides.now.k b }
     requires marked { Marked (entry_of sides.now.number.now sides.now.k) sides.now.table.now (length code.now) (a, b) }
@@ -154,9 +156,7 @@ impl<'a> Paired<'a> {
         ensures { Spread (faces_of self.now.corners.now self.now.ends.now) code.new list.new result.low result.head
             result.tail × (result.head ≡ at.head + 1) }
     {
-        let low = at.low;
-        let head = at.head;
-        let f = list[head] as usize;
+        let f = list[at.head] as usize;
         let face = cell::face_by_number(self.corners, self.ends, f);
         let w = code[f];
         let n = face.len();
@@ -168,9 +168,9 @@ impl<'a> Paired<'a> {
             tail = meet(code, list, tail, m, runs_up(a, b, w));
         }
         Reached {
-            low,
-            head: head + 1,
+            head: at.head + 1,
             tail,
+            ..at
         }
     }
 

@@ -154,14 +154,12 @@ impl<'a> SideTable<'a> {
     }
 
     // Whether the side from a to b, where these differ, has no second mark.
+    #[tactic(auto, unfolding(crate::specs::Steps::lonely))]
     fn lonely_side(&self, a: usize, b: usize) -> bool
         requires known { Known self.now.number.now self.now.k a × Known self.now.number.now self.now.k b }
         ensures { result ≡ lonely (entry_of self.now.number.now self.now.k) self.now.table.now (a, b) }
     {
-        if a == b {
-            return false;
-        }
-        self.second_mark(a, b) == 0
+        a != b && self.second_mark(a, b) == 0
     }
 
     // Whether that is so of a side of a face.

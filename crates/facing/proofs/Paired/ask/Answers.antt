@@ -10,8 +10,8 @@ use Rattle.facing.proofs.Paired.ask.Goals as goal
 use Rattle.facing.proofs.Paired.ask.Goals.{After-corner-b}
 
 -- the side of the face f at which the loop is
-on_side : (c : After-corner-b) → OnFace c.args.self.now.corners.now c.args.self.now.ends.now (get_or c.args.list.now c.args.at.head 0) c.loop-i.i
-    c.corner-a.result c.corner-b.result
+on_side : (c : After-corner-b) → OnFace c.args.self.now.corners.now c.args.self.now.ends.now (get_or c.args.list.now c.args.at.head 0)
+    c.loop-i.i c.corner-a.result c.corner-b.result
 on_side c =
     let below = round_below c.loop-i.invariant.3 in
     on_face c.face_by_number-face.ensures (omega (arith, below, length_faces c.args.self.now.corners.now c.args.self.now.ends.now))

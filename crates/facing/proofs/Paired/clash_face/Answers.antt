@@ -14,13 +14,17 @@ use Rattle.facing.proofs.Paired.clash_face.Goals as goal
 use Rattle.facing.proofs.Paired.clash_face.Goals.{After-corner-b}
 
 -- the side of the face f at which the loop is
-on_side : (c : After-corner-b) → OnFace c.args.self.now.corners.now c.args.self.now.ends.now c.args.f c.loop-i.i c.corner-a.result c.corner-b.result
+on_side : (c : After-corner-b) → OnFace c.args.self.now.corners.now c.args.self.now.ends.now c.args.f c.loop-i.i c.corner-a.result
+    c.corner-b.result
 on_side c =
     on_face c.face_by_number-face.ensures c.requires.code_len.1 refl (omega arith) c.corner-a.ensures.0
     c.next.ensures.0 c.corner-b.ensures.0
 
-within : (c : After-corner-b) → c.loop-i.i < length (sides (get_or (faces_of c.args.self.now.corners.now c.args.self.now.ends.now) c.args.f []))
-within c = omega (arith, length_sides (get_or (faces_of c.args.self.now.corners.now c.args.self.now.ends.now) c.args.f []), (on_side c).within)
+within : (c : After-corner-b) → c.loop-i.i < length
+    (sides (get_or (faces_of c.args.self.now.corners.now c.args.self.now.ends.now) c.args.f []))
+within c =
+    let face = get_or (faces_of c.args.self.now.corners.now c.args.self.now.ends.now) c.args.f [] in
+    omega (arith, length_sides face, (on_side c).within)
 
 pub loop-i-init : goal.loop-i-init
 unfolding clash_face

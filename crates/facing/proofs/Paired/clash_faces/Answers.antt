@@ -1,4 +1,5 @@
--- `facing::Paired::clash_faces` meets its contract: whether a face has a side that clashes is asked of those from f on, since none before had.
+-- `facing::Paired::clash_faces` meets its contract: whether a face has a side that clashes is asked of those from f on, since none
+-- before had.
 use mathlib.Core.Path.{refl}
 use mathlib.Core.List.{[]}
 use native.Mathlib.Omega.{arith}

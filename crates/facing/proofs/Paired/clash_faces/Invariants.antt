@@ -6,5 +6,8 @@ use Rattle.facing.proofs.Paired.clash_faces.Given as goal
 
 abbrev pub invariant-loop-f : goal.invariant-loop-f
 invariant-loop-f l =
-    Asking (clash_face (entry_of l.self.sides.number.now l.self.sides.k) l.self.sides.table.now l.code) (faces_of l.self.corners.now l.self.ends.now)
-    (clash_faces (entry_of l.self.sides.number.now l.self.sides.k) l.self.sides.table.now l.code (faces_of l.self.corners.now l.self.ends.now)) l.f
+    Asking (clash_face (entry_of l.self.sides.number.now l.self.sides.k) l.self.sides.table.now l.code)
+    (faces_of l.self.corners.now l.self.ends.now)
+    (clash_faces (entry_of l.self.sides.number.now l.self.sides.k) l.self.sides.table.now l.code
+    (faces_of l.self.corners.now l.self.ends.now))
+    l.f

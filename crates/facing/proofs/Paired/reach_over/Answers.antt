@@ -1,4 +1,5 @@
--- `facing::Paired::reach_over` meets its contract: each step lets one more face ask, and none comes into the list twice, so n steps reach all n.
+-- `facing::Paired::reach_over` meets its contract: each step lets one more face ask, and none comes into the list twice, so n steps
+-- reach all n.
 use mathlib.Core.Path.{refl}
 use native.Mathlib.Omega.{arith}
 use Rattle.cell.specs.Faces.{faces_of}

@@ -1,4 +1,5 @@
--- `shared_sides::SideTable::lonely_face` meets its contract: whether a side of the face is lonely is asked of those from i on, since none before was.
+-- `shared_sides::SideTable::lonely_face` meets its contract: whether a side of the face is lonely is asked of those from i on,
+-- since none before was.
 use native.Mathlib.Omega.{arith}
 use mathlib.Core.Path.{refl}
 use Rattle.places.proofs.Rings.{length_sides, side_at}

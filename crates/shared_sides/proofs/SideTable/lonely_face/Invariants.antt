@@ -6,4 +6,5 @@ use Rattle.shared_sides.proofs.SideTable.lonely_face.Given as goal
 
 abbrev pub invariant-loop-i : goal.invariant-loop-i
 invariant-loop-i l =
-    Asking (lonely (entry_of l.self.number.now l.self.k) l.self.table.now) (sides l.face) (lonely_face (entry_of l.self.number.now l.self.k) l.self.table.now l.face) l.i
+    Asking (lonely (entry_of l.self.number.now l.self.k) l.self.table.now)
+    (sides l.face) (lonely_face (entry_of l.self.number.now l.self.k) l.self.table.now l.face) l.i

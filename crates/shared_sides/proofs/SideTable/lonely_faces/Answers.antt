@@ -1,4 +1,5 @@
--- `shared_sides::SideTable::lonely_faces` meets its contract: whether a face has a lonely side is asked of those from j on, since none before had.
+-- `shared_sides::SideTable::lonely_faces` meets its contract: whether a face has a lonely side is asked of those from there on,
+-- since none before had.
 use native.Mathlib.Omega.{arith}
 use mathlib.Core.Path.{refl}
 use Rattle.cell.proofs.Faces.{faces_start, faces_step, faces_yes, faces_no, faces_end}

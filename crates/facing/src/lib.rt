@@ -30,7 +30,7 @@ struct Paired<'a> {
 }
 
 // How far the faces are reached: all before `low`, and those in the list before `tail`;
-// of these, those before `head` have asked their neighbours.
+// of these, those before `head` have asked their neighbours. The list is lent with its length beside it, since this crate has no heap.
 #[derive(Drop)]
 struct Reached {
     low: usize,

@@ -34,6 +34,7 @@ fn counted(triangles: usize, left: usize, tests: usize) -> Counts
 
 // While a face is cut, the ring is kept as places of the face (ks) beside the points of its corners (ps). A place takes 16 bits, since a
 // face has at most 2,048 corners; nothing that is known here bounds the numbers of its vertices so.
+// Two lists: next_corner reads the points alone, and a list of pairs would be a larger array, for a pair is padded to 24 bytes.
 
 // The corner at place i of the ring, and the triangle of those at three places.
 fn corner_at(face: &[u32], ks: &[u16], i: usize) -> u32
@@ -80,6 +81,7 @@ fn cut_at(
 }
 
 // The places of a face in order, and the points of its corners, are laid down in lists of their own.
+// by_place::fill_order does this in 32 bits: one function for both would have to say of any type what its numbers are, and is no plainer.
 fn fill_places(ks: &mut [u16])
     requires { length ks.old ≤ most_corners }
     ensures { InOrder ks.new }

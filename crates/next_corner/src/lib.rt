@@ -4,7 +4,7 @@
 ghost use Rattle.std.specs.Prelude.{◌≡◌, ◌<◌, ◌≤◌, length};
 ghost use Rattle.places.specs.Limits.{most_corners};
 ghost use Rattle.flat.specs.Flat.{summed_area_of};
-ghost use Rattle.next_corner.specs.NextCorner.{direction_of, turns_of, same_of, strictly_in, blocks_of, blocked_of};
+ghost use Rattle.next_corner.specs.NextCorner.{direction_of, turns_of, strictly_in, blocks_of, blocked_of};
 ghost use Rattle.next_corner.specs.NextCorner.{turns_at, ear_at, find_ear, find_turn, tried_of, find_corner};
 
 // The corner that is cut off next, if any, and how many turn tests were made: how often turn × direction was tested at a corner.
@@ -41,13 +41,6 @@ fn turns(a: [f64; 2], b: [f64; 2], c: [f64; 2], dir: f64) -> bool
     flat::cross2(a, b, c) * dir >= 0.0
 }
 
-#[tactic(auto, unfolding(crate::specs::NextCorner::same_of))]
-fn same2(p: [f64; 2], q: [f64; 2]) -> bool
-    ensures { result ≡ same_of p q }
-{
-    p[0] == q[0] && p[1] == q[1]
-}
-
 #[tactic(auto, unfolding(crate::specs::NextCorner::strictly_in))]
 fn strictly_in(a: [f64; 2], b: [f64; 2], c: [f64; 2], dir: f64, p: [f64; 2]) -> bool
     ensures { result ≡ strictly_in a b c dir p }
@@ -58,11 +51,11 @@ fn strictly_in(a: [f64; 2], b: [f64; 2], c: [f64; 2], dir: f64, p: [f64; 2]) -> 
 }
 
 // Whether p is in the way of the triangle a, b, c.
-#[tactic(auto, unfolding(crate::specs::NextCorner::blocks_of))]
+#[tactic(auto, unfolding(crate::specs::NextCorner::blocks_of, crate::specs::NextCorner::same_of))]
 fn blocks(a: [f64; 2], b: [f64; 2], c: [f64; 2], dir: f64, p: [f64; 2]) -> bool
     ensures { result ≡ blocks_of a b c dir p }
 {
-    !same2(p, a) && !same2(p, b) && !same2(p, c) && strictly_in(a, b, c, dir, p)
+    p != a && p != b && p != c && strictly_in(a, b, c, dir, p)
 }
 
 fn blocked(ps: &[[f64; 2]], a: [f64; 2], b: [f64; 2], c: [f64; 2], dir: f64) -> bool

@@ -1,14 +1,12 @@
--- A point whose coordinates are written one after the other: what `plus`, `over` and `widen` keep true, by its start, its next coordinate and
--- its end.
+-- A point whose coordinates are written one after the other: what `plus`, `over` and `widen` keep true, and what it says at the end.
 use mathlib.Core.Path.{◌≡◌, refl, sym, ap, ◌∙◌}
 use mathlib.Core.List.{◌∷◌}
 use Prim.Native.Nat.{ℕ, zero, suc, ◌+◌, ◌<◌, ◌≤◌}
 use native.Mathlib.Nat.{le_of_suc-le-suc, zero-add}
 use native.Mathlib.Omega.{arith}
 use lib.Ieee.{Float, nan}
-use lib.ListN.{length, set, length-set, replicate}
-use lib.Seq.{ext_get_or, get_or-set_same, get_or-set_other}
-use borrow.Author.Count.{below_more}
+use lib.ListN.{length, replicate}
+use lib.Seq.{ext_get_or}
 use Rattle.flat.specs.Points.{Point, at, coordinates_from, point_by}
 
 -- ---- the coordinates of a point that is made by a function
@@ -36,19 +34,6 @@ pub record Writing (f : ℕ → Float) (start : Point) (n i : ℕ) (p : Point) :
   pub left : (k : ℕ) → i ≤ k → at p k ≡ at start k
 
 module _ {f : ℕ → Float} {start : Point} {n : ℕ} where
-  pub write_start : length start ≡ n → Writing f start n 0 start
-  write_start h = record { long = h; written = λ k l. absurd (omega arith); left = λ k l. refl }
-
-  pub write_next : {i : ℕ} {p p' : Point} {v : Float} → Writing f start n i p → i < n → v ≡ f i → p' ≡ set p i v
-      → Writing f start n (i + 1) p'
-  write_next {i} {p} {p'} {v} w h q e =
-      let within : i < length p = omega (arith, w.long) in
-      rw e (record {
-        long = simp length-set w.long;
-        written = below_more _ _ (λ k l. get_or-set_other p i k v nan (λ s. omega arith) ∙ w.written k l) (get_or-set_same p i v nan within ∙ q);
-        left = λ k l. get_or-set_other p i k v nan (λ s. omega arith) ∙ w.left k (omega arith);
-      })
-
   pub write_end : {i : ℕ} {p : Point} → Writing f start n i p → n ≤ i → p ≡ point_by n f
   write_end {i} {p} w h =
       ext_get_or nan p (point_by n f) (w.long ∙ sym (coordinates f n 0))

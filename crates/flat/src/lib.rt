@@ -9,6 +9,7 @@ ghost use Rattle.flat.specs.Points.{plus_of, minus_of, over_of, scale_of};
 ghost use Rattle.flat.specs.Flat.{cross2_of, newell_side, axis_of, project2_of, area_side, crossing_of};
 
 // (b - a) x (c - a).
+#[tactic(auto, unfolding(crate::specs::Flat::cross2_of))]
 pub fn cross2(a: [f64; 2], b: [f64; 2], c: [f64; 2]) -> f64
     ensures { result ≡ cross2_of a b c }
 {
@@ -16,6 +17,7 @@ pub fn cross2(a: [f64; 2], b: [f64; 2], c: [f64; 2]) -> f64
 }
 
 // The sums s with the terms of the side from a to b added.
+#[tactic(auto, unfolding(crate::specs::Flat::newell_side))]
 fn newell_side(a: [f64; 3], b: [f64; 3], s: [f64; 3]) -> [f64; 3]
     ensures { result ≡ newell_side a b s }
 {
@@ -27,6 +29,7 @@ fn newell_side(a: [f64; 3], b: [f64; 3], s: [f64; 3]) -> [f64; 3]
 }
 
 // The sum s with the term of the side from a to b added: of an outline of the plane, towards twice its area.
+#[tactic(auto, unfolding(crate::specs::Flat::area_side))]
 pub fn area_side(a: [f64; 2], b: [f64; 2], s: f64) -> f64
     ensures { result ≡ area_side a b s }
 {
@@ -65,6 +68,7 @@ pub fn project2(p: [f64; 3], axis: usize) -> [f64; 2]
 
 // Where the line from a to b meets that from p to q; q when the denominator is 0.
 // Ruled out: dividing by a denominator of 0; the same point computed from p along q - p, which rounds otherwise.
+#[tactic(auto, unfolding(crate::specs::Flat::crossing_of))]
 pub fn segment_intersection(a: [f64; 2], b: [f64; 2], p: [f64; 2], q: [f64; 2]) -> [f64; 2]
     ensures { result ≡ crossing_of a b p q }
 {
@@ -82,6 +86,7 @@ pub fn segment_intersection(a: [f64; 2], b: [f64; 2], p: [f64; 2], q: [f64; 2]) 
 
 // Points of the plane or of space: s + p, and p with each coordinate divided by n.
 // Ruled out: p taken off; each coordinate multiplied.
+#[tactic(auto, using(crate::proofs::Coordinates::write_end), unfolding(crate::specs::Points::plus_of))]
 pub fn plus<const N: usize>(p: [f64; N], mut s: [f64; N]) -> [f64; N]
     ensures { result ≡ plus_of N p.entry s.entry }
 {
@@ -91,6 +96,7 @@ pub fn plus<const N: usize>(p: [f64; N], mut s: [f64; N]) -> [f64; N]
     s
 }
 
+#[tactic(auto, using(crate::proofs::Coordinates::write_end), unfolding(crate::specs::Points::over_of))]
 pub fn over<const N: usize>(mut p: [f64; N], n: f64) -> [f64; N]
     ensures { result ≡ over_of N p.entry n }
 {
@@ -107,6 +113,7 @@ pub fn plus3(p: [f64; 3], s: [f64; 3]) -> [f64; 3]
     plus(p, s)
 }
 
+#[tactic(auto, unfolding(crate::specs::Points::minus_of))]
 pub fn minus3(p: [f64; 3], q: [f64; 3]) -> [f64; 3]
     ensures { result ≡ minus_of 3 p q }
 {
@@ -120,6 +127,7 @@ pub fn over3(p: [f64; 3], n: f64) -> [f64; 3]
 }
 
 // The longest side of a box.
+#[tactic(auto, unfolding(crate::specs::Points::scale_of))]
 pub fn scale(b: [[f64; 3]; 2]) -> f64
     ensures { result ≡ scale_of b }
 {

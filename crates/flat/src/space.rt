@@ -11,6 +11,7 @@ ghost use Rattle.flat.specs.Flat.{newell_of, point_of};
 use super::points;
 
 // The vertex with a number.
+#[tactic(auto, using(places::proofs::Stored::length_threes, places::proofs::Stored::threes_at))]
 pub fn vertex(coords: &[f64], v: usize) -> [f64; 3]
     requires { v < length (vertices_of coords.now) }
     ensures { result ≡ vertex_of (vertices_of coords.now) v }
@@ -25,6 +26,7 @@ pub fn vertex(coords: &[f64], v: usize) -> [f64; 3]
 
 // A vertex laid down under a number. One or two numbers that stand after the last vertex stay as they were.
 // Ruled out: the vertex laid down from the number's own place on; a number of the next vertex changed.
+#[tactic(auto, using(places::proofs::Stored::threes_written))]
 pub fn put_vertex(coords: &mut [f64], v: usize, p: [f64; 3])
     requires { v < length (vertices_of coords.old) }
     ensures vertices { vertices_of coords.new ≡ set (vertices_of coords.old) v p }
@@ -37,6 +39,7 @@ pub fn put_vertex(coords: &mut [f64], v: usize, p: [f64; 3])
 }
 
 // The vertex at place i of a face.
+#[tactic(auto, using(crate::proofs::Corners::corner_at))]
 pub fn vertex_at(coords: &[f64], face: &[u32], i: usize) -> [f64; 3]
     requires inside { Inside (vertices_of coords.now) face.now }
     requires i_in_bounds { i < length face.now }
@@ -47,6 +50,7 @@ pub fn vertex_at(coords: &[f64], face: &[u32], i: usize) -> [f64; 3]
 }
 
 // The same in the plane without an axis.
+#[tactic(auto, using(crate::proofs::Corners::corner_at), unfolding(crate::specs::Flat::point_of))]
 pub fn point_at(coords: &[f64], ring: &[u32], axis: usize, i: usize) -> [f64; 2]
     requires inside { Inside (vertices_of coords.now) ring.now }
     requires i_in_bounds { i < length ring.now }
@@ -97,6 +101,7 @@ pub fn count(n: u16) -> f64
 }
 
 // The vertex centroid: the points added in order, and each coordinate divided by their number.
+#[tactic(auto, using(places::proofs::Stored::threes_chunks))]
 pub fn vertex_centroid(coords: &[f64]) -> [f64; 3]
     requires { length coords.now ≤ most_coordinates }
     ensures { result ≡ centroid_of 3 (vertices_of coords.now) }
@@ -105,6 +110,7 @@ pub fn vertex_centroid(coords: &[f64]) -> [f64; 3]
 }
 
 // The smallest box that has the points: its corner of least and that of largest coordinates.
+#[tactic(auto, using(places::proofs::Stored::threes_chunks))]
 pub fn bounds(coords: &[f64]) -> [[f64; 3]; 2]
     ensures { result ≡ bounds_of 3 (vertices_of coords.now) }
 {

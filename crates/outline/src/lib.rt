@@ -10,6 +10,7 @@ ghost use Rattle.flat.specs.Flat.{summed_area_of, signed_area_of, ccw_of};
 use flat::points;
 
 // The point at place i.
+#[tactic(auto, using(places::proofs::Stored::length_pairs, places::proofs::Stored::pairs_at))]
 pub fn pair(ps: &[f64], i: usize) -> [f64; 2]
     requires { i < length (in_pairs ps.now) }
     ensures { result ≡ get_or (in_pairs ps.now) i [] }
@@ -20,6 +21,7 @@ pub fn pair(ps: &[f64], i: usize) -> [f64; 2]
 
 // A point laid down at place i. Here and below, a number that stands after the last point stays as it was.
 // Ruled out: the point laid down from number i on; y laid down before x.
+#[tactic(auto, using(places::proofs::Stored::pairs_written))]
 pub fn put_pair(ps: &mut [f64], i: usize, p: [f64; 2])
     requires { i < length (in_pairs ps.old) }
     ensures points { in_pairs ps.new ≡ set (in_pairs ps.old) i p }
@@ -46,6 +48,7 @@ fn summed_area(ps: &[f64]) -> f64
 // The signed area: half the sum.
 // Ruled out: leaving out the side from the last point to the first;
 // measuring from the first point instead of the origin, which rounds otherwise.
+#[tactic(auto, unfolding(flat::specs::Flat::signed_area_of))]
 pub fn signed_area2(ps: &[f64]) -> f64
     ensures { result ≡ signed_area_of (in_pairs ps.now) }
 {
@@ -53,6 +56,7 @@ pub fn signed_area2(ps: &[f64]) -> f64
 }
 
 // The points at two places changed for each other.
+#[tactic(auto, unfolding(places::specs::Steps::swapped))]
 fn swap_points(ps: &mut [f64], i: usize, j: usize)
     requires i_in_bounds { i < length (in_pairs ps.old) }
     requires j_in_bounds { j < length (in_pairs ps.old) }
@@ -79,6 +83,7 @@ fn reverse_points(ps: &mut [f64])
 
 // The outline turned counterclockwise, in place: reversed where its signed area is below 0.
 // Ruled out: reversing the numbers, which changes each point's x for its y; reversing where the area is 0 or not a number.
+#[tactic(auto, using(places::proofs::Stored::joined_pairs), unfolding(flat::specs::Flat::ccw_of))]
 pub fn into_ccw2(ps: &mut [f64])
     requires { length ps.old % 2 ≡ 0 }
     ensures { ps.new ≡ joined (ccw_of (in_pairs ps.old)) }
@@ -89,6 +94,7 @@ pub fn into_ccw2(ps: &mut [f64])
 }
 
 // The points added in order, and each coordinate divided by their number.
+#[tactic(auto, using(places::proofs::Stored::pairs_chunks))]
 pub fn vertex_centroid2(ps: &[f64]) -> [f64; 2]
     requires { length ps.now ≤ 1024 }
     ensures { result ≡ centroid_of 2 (in_pairs ps.now) }
@@ -98,6 +104,7 @@ pub fn vertex_centroid2(ps: &[f64]) -> [f64; 2]
 
 // The corner of least coordinates and that of largest.
 // Ruled out: starting from the box of 0, which draws the origin in; a NaN coordinate taken over, where the Rust's min and max pass it by.
+#[tactic(auto, using(places::proofs::Stored::pairs_chunks))]
 pub fn bounds2(ps: &[f64]) -> [[f64; 2]; 2]
     ensures { result ≡ bounds_of 2 (in_pairs ps.now) }
 {

@@ -4,7 +4,7 @@ use mathlib.Core.Path.{◌≡◌, refl, ap, ◌∙◌}
 use mathlib.Core.List.{List, [], ◌∷◌, ◌++◌}
 use Prim.Native.Nat.{ℕ, zero, suc, ◌+◌, ◌*◌, ◌/◌, ◌%◌, ◌<◌}
 use native.Mathlib.Omega.{arith}
-use lib.ListN.{length, get_or, set, take, drop, length-append}
+use lib.ListN.{length, get_or, set, take, drop, length-append, length-set}
 use Rattle.std.specs.Simd.{first_chunks}
 use Rattle.places.specs.Lists.{Each}
 use Rattle.places.specs.Stored.{in_threes, in_pairs, joined}
@@ -248,3 +248,8 @@ module _ {A : Type 0} where
   pub threes_front : (n : ℕ) (front l : List A) → length front ≡ n * 3
       → in_threes (front ++ drop (n * 3) l) ≡ in_threes front ++ drop n (in_threes l)
   threes_front n front l h = rw (threes_append front (drop (n * 3) l) (omega arith), threes_drop n l)
+
+-- for the functions that lay down a point
+pub ruleset threes_written = (length_threes, threes_set, over_threes_set, length-set)
+
+pub ruleset pairs_written = (length_pairs, pairs_put, over_pairs_set, length-set)

@@ -1,8 +1,0 @@
--- `flat::space::vertex_centroid` meets its contract: the chunks of three are the points.
-use mathlib.Core.Path.{ap, ◌∙◌}
-use Rattle.flat.specs.Points.{centroid_of}
-use Rattle.places.proofs.Stored.{threes_chunks}
-use Rattle.flat.proofs.space.vertex_centroid.Goals as goal
-
-pub returns : goal.returns
-returns c = c.centroid.ensures ∙ ap (centroid_of 3) (c.as_chunks.ensures.front ∙ threes_chunks c.args.coords.now)

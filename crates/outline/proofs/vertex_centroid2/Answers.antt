@@ -1,8 +1,0 @@
--- `outline::vertex_centroid2` meets its contract: the chunks of two are the points.
-use mathlib.Core.Path.{ap, ◌∙◌}
-use Rattle.flat.specs.Points.{centroid_of}
-use Rattle.places.proofs.Stored.{pairs_chunks}
-use Rattle.outline.proofs.vertex_centroid2.Goals as goal
-
-pub returns : goal.returns
-returns c = c.centroid.ensures ∙ ap (centroid_of 2) (c.as_chunks.ensures.front ∙ pairs_chunks c.args.ps.now)

@@ -14,6 +14,7 @@ ghost use Rattle.inside.specs.Inside.{cross_face, cross_marked, contains_of, hol
 ghost use Rattle.inside.specs.Steps.{MarkedInside};
 
 // Where the side from a to b meets the height of p.
+#[tactic(auto, unfolding(crate::specs::Ray::meets_at))]
 fn meets_at(p: [f64; 2], a: [f64; 2], b: [f64; 2]) -> f64
     ensures { result ≡ meets_at p a b }
 {
@@ -22,6 +23,7 @@ fn meets_at(p: [f64; 2], a: [f64; 2], b: [f64; 2]) -> f64
 }
 
 // Whether the side from a to b passes the height of p, and to the right of p.
+#[tactic(auto, unfolding(crate::specs::Ray::passes))]
 fn passes(p: [f64; 2], a: [f64; 2], b: [f64; 2]) -> bool
     ensures { result ≡ passes p a b }
 {
@@ -29,6 +31,7 @@ fn passes(p: [f64; 2], a: [f64; 2], b: [f64; 2]) -> bool
 }
 
 // A side that passes turns the answer round.
+#[tactic(auto, unfolding(crate::specs::Ray::pass_side))]
 fn pass_side(p: [f64; 2], a: [f64; 2], b: [f64; 2], inside: bool) -> bool
     ensures { result ≡ pass_side p a b inside }
 {
@@ -70,6 +73,7 @@ fn along(n: [f64; 3]) -> bool
 }
 
 // How far along the ray from p the plane of normal n through v is.
+#[tactic(auto, unfolding(crate::specs::Ray::distance_ahead))]
 fn distance_ahead(p: [f64; 3], n: [f64; 3], v: [f64; 3]) -> f64
     ensures { result ≡ distance_ahead p n v }
 {
@@ -100,6 +104,7 @@ fn ray_crosses_face(coords: &[f64], face: &[u32], p: [f64; 3]) -> bool
 }
 
 // A face that is crossed turns the answer round.
+#[tactic(auto, unfolding(crate::specs::Inside::cross_face))]
 fn cross_face(coords: &[f64], face: &[u32], p: [f64; 3], inside: bool) -> bool
     requires { Inside (vertices_of coords.now) face.now }
     ensures { result ≡ cross_face (vertices_of coords.now) p face.now inside }
@@ -129,6 +134,7 @@ pub fn contains(coords: &[f64], corners: &[u32], ends: &[u32], p: [f64; 3]) -> b
 }
 
 // A face of a list with marks turns the answer round where it is crossed. Under 3 corners it is skipped.
+#[tactic(auto, unfolding(crate::specs::Inside::cross_marked))]
 fn cross_marked(coords: &[f64], face: &[u32], p: [f64; 3], inside: bool) -> bool
     requires { Inside (vertices_of coords.now) face.now }
     ensures { result ≡ cross_marked (vertices_of coords.now) p face.now inside }

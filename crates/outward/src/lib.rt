@@ -20,6 +20,7 @@ struct Seen {
 }
 
 // How near to the plane of a normal a vertex counts as on it.
+#[tactic(auto, unfolding(crate::specs::Convexity::tolerance_of))]
 fn tolerance(n: [f64; 3]) -> f64
     ensures { result ≡ tolerance_of n }
 {
@@ -37,6 +38,7 @@ fn has_corner(face: &[u32], v: usize) -> bool
 }
 
 // What is seen when p is looked at besides.
+#[tactic(auto, unfolding(crate::specs::Convexity::level_of, crate::specs::Convexity::above, crate::specs::Convexity::below, crate::specs::Steps::see_of))]
 fn see(n: [f64; 3], d: f64, eps: f64, p: [f64; 3], seen: Seen) -> Seen
     ensures { result ≡ see_of n d eps p seen }
 {
@@ -86,6 +88,7 @@ fn plane_parts(coords: &[f64], face: &[u32], n: [f64; 3], d: f64, eps: f64) -> b
 }
 
 // Whether a face of 3 or more corners has other vertices on both sides.
+#[tactic(auto, unfolding(crate::specs::Convexity::face_parts))]
 fn face_parts(coords: &[f64], face: &[u32]) -> bool
     requires { Inside (vertices_of coords.now) face.now }
     ensures { result ≡ face_parts (vertices_of coords.now) face.now }
@@ -129,6 +132,7 @@ pub fn compute_convexity(coords: &[f64], corners: &[u32], ends: &[u32]) -> bool
 }
 
 // How far a face looks away from a reference point.
+#[tactic(auto, unfolding(crate::specs::Outward::away_of))]
 fn away(coords: &[f64], face: &[u32], reference: [f64; 3]) -> f64
     requires inside { Inside (vertices_of coords.now) face.now }
     requires face_nonzero { 0 < length face.now }
@@ -140,6 +144,7 @@ fn away(coords: &[f64], face: &[u32], reference: [f64; 3]) -> f64
 }
 
 // A face turned outward, in place.
+#[tactic(auto, unfolding(crate::specs::Outward::outward_of))]
 fn face_outward(coords: &[f64], face: &mut [u32], reference: [f64; 3])
     requires inside { Inside (vertices_of coords.now) face.old }
     requires face_nonzero { 0 < length face.old }

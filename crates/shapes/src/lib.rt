@@ -43,6 +43,7 @@ const HEX8_ENDS: [u32; 6] = [4, 8, 12, 16, 20, 24];
 // The signed volume of a tetrahedron: positive where b, c, d go round counterclockwise, seen from the side away from a.
 // Ruled out: a program that answers the magnitude, so that a turned tetrahedron counts as a
 // good one; one that takes the edges from the origin and not from a.
+#[tactic(auto, unfolding(crate::specs::Shapes::tet_volume_of))]
 pub fn tet_volume(a: [f64; 3], b: [f64; 3], c: [f64; 3], d: [f64; 3]) -> f64
     ensures { result ≡ tet_volume_of a b c d }
 {
@@ -50,6 +51,7 @@ pub fn tet_volume(a: [f64; 3], b: [f64; 3], c: [f64; 3], d: [f64; 3]) -> f64
 }
 
 // The volume of the tetrahedron whose corners have the numbers of a row.
+#[tactic(auto, unfolding(crate::specs::Shapes::tet_by))]
 fn tet_by(ps: &[[f64; 3]], row: [usize; 4]) -> f64
     requires { Inside ps.now row }
     ensures { result ≡ tet_by ps.now row }
@@ -73,6 +75,7 @@ fn volume_by(ps: &[[f64; 3]], table: &[[usize; 4]]) -> f64
 // The signed volume of a wedge.
 // Ruled out: a program that leaves out the last tetrahedron; one that adds magnitudes, so
 // that the parts of a twisted wedge do not offset each other.
+#[tactic(auto, unfolding(crate::specs::Shapes::wedge_volume_of))]
 pub fn wedge_volume(p: [[f64; 3]; 6]) -> f64
     ensures { result ≡ wedge_volume_of p }
 {
@@ -82,6 +85,7 @@ pub fn wedge_volume(p: [[f64; 3]; 6]) -> f64
 // The signed volume of a hexahedron.
 // Ruled out: a program with one wrong number in a row of the table; one that adds the
 // triple products and divides once, which rounds otherwise.
+#[tactic(auto, unfolding(crate::specs::Shapes::hex_volume_of))]
 pub fn hex_volume(p: [[f64; 3]; 8]) -> f64
     ensures { result ≡ hex_volume_of p }
 {

@@ -89,6 +89,7 @@ pub fn root(x: f64) -> f64
 // The root of the rounded square of x. Where that square is finite and above the least normal value, the root is the magnitude of x
 // (proofs/RootOfSquare.antt), and no digit need be extracted; the test stays well within these ends.
 // Rules out: the magnitude where the square underflows or overflows.
+#[tactic(auto, using(crate::proofs::RootOfSquare::usual_square, crate::proofs::Nans::holds))]
 pub fn root_of_square(x: f64) -> f64
     ensures { result ≡ root_of binary64 (mul binary64 x x) }
 {

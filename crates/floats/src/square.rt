@@ -28,6 +28,7 @@ fn scale_subnormal(b: u64) -> Scaled
 }
 
 // The pattern b of a normal number, scaled: at an odd exponent one factor of two goes to the digits.
+#[tactic(auto, using(crate::proofs::Reading::even_scaled, crate::proofs::Reading::odd_scaled))]
 fn scale_normal(b: u64) -> Scaled
     requires bound { 2 ^ 52 ≤ b }
     requires b_bound { b < 0x7ff0_0000_0000_0000 }

@@ -26,6 +26,7 @@ pub struct Digits {
 
 // The number whose pattern is b, in units. A pattern does not store the leading digit of a normal number.
 // Rules out: a subnormal read with the leading digit of a normal number.
+#[tactic(auto, using(crate::proofs::Length::subnormal, crate::proofs::Length::normal))]
 fn in_units(b: u64) -> Units
     requires { b < 0x7ff0_0000_0000_0000 }
     ensures { InUnits b result.m result.e }

@@ -52,6 +52,7 @@ fn whole_root(a: u64) -> u64
 // right or one too high: its square, `owed`, is to be taken from what the division leaves, and where that is too little the root is one
 // less.
 // Rules out: a root one too high; the digits of n left out of the remainder.
+#[tactic(auto, using(crate::proofs::Division::high))]
 fn divide(root: u64, rest: u64, n: u64) -> floats::schoolbook::Extraction
     requires root_bound { root < 2 ^ 27 }
     requires bound { 2 ^ 26 ≤ root }

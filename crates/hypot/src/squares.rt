@@ -18,6 +18,7 @@ pub struct Sum {
 }
 
 // 4^s
+#[tactic(auto, using(crate::proofs::Limbs::shifted_one))]
 pub fn power_of_four(s: u64) -> u64
     requires { s < 27 }
     ensures { result ≡ 2 ^ s * 2 ^ s }

@@ -1,6 +1,6 @@
 // The lists that a call is lent, and what is stored of them: how many words, and the words. A stored list of another length, or
 // one that is cut short, is different.
-ghost use Rattle.std.specs.Prelude.{◌≤◌, ◌≡◌, length};
+ghost use Rattle.std.specs.Prelude.{◌≡◌, length, IfSome};
 
 use crate::words::{capped, part, word};
 
@@ -38,12 +38,15 @@ pub fn behind(ws: &[u64]) -> &[u64] {
     part(ws, 1 + n, 8192)
 }
 
-// Whether n words are stored at the head.
-fn holds(ws: &[u64], n: usize) -> bool {
-    if ws.len() <= n {
-        return false;
+// The list at the head, where it has n words.
+fn stored(ws: &[u64], n: usize) -> Option<&[u64]>
+    ensures { IfSome result (λ words. length words.now ≡ n) }
+{
+    let (first, rest) = ws.split_first()?;
+    if *first != n as u64 {
+        return None;
     }
-    word(ws, 0) == n as u64
+    rest.get(..n)
 }
 
 // The pattern of a number; where zeros of either sign are the same, that of +0 for both.
@@ -54,90 +57,32 @@ fn pattern(x: f64, zeros: u64) -> u64 {
     floats::pattern(x)
 }
 
+// Whether the list at the head has the words of these values.
+fn same<T, F: Fn(&T) -> u64>(ws: &[u64], xs: &[T], word_of: F) -> bool
+    requires { F.IsAlwaysCallable word_of }
+{
+    let Some(words) = stored(ws, xs.len()) else {
+        return false;
+    };
+    words.iter().zip(xs).all(|(w, x)| *w == word_of(x))
+}
+
 // Whether every number of a list is as stored.
 pub fn same_numbers(ws: &[u64], xs: &[f64], zeros: u64) -> bool {
-    let n = xs.len();
-    if !holds(ws, n) {
-        return false;
-    }
-    let mut i = 0;
-    while i < n {
-        if word(ws, i + 1) != pattern(xs[i], zeros) {
-            return false;
-        }
-        i += 1;
-    }
-    true
-}
-
-// A count and a corner as words.
-fn count(n: usize) -> u64 {
-    n as u64
-}
-
-fn corner(c: u32) -> u64 {
-    c as u64
+    same(ws, xs, |x| pattern(*x, zeros))
 }
 
 // The same of a list of counts.
 pub fn same_counts(ws: &[u64], ns: &[usize]) -> bool {
-    let n = ns.len();
-    if !holds(ws, n) {
-        return false;
-    }
-    let mut i = 0;
-    while i < n {
-        if word(ws, i + 1) != count(ns[i]) {
-            return false;
-        }
-        i += 1;
-    }
-    true
+    same(ws, ns, |n| *n as u64)
 }
 
 // The same of a list of corners.
 pub fn same_corners(ws: &[u64], cs: &[u32]) -> bool {
-    let n = cs.len();
-    if !holds(ws, n) {
-        return false;
-    }
-    let mut i = 0;
-    while i < n {
-        if word(ws, i + 1) != corner(cs[i]) {
-            return false;
-        }
-        i += 1;
-    }
-    true
-}
-
-// Whether the three corners of a triangle are the words from a place on.
-fn same_triangle(ws: &[u64], at: usize, t: [u32; 3]) -> bool
-    requires { at ≤ 8192 }
-{
-    if word(ws, at) != corner(t[0]) {
-        return false;
-    }
-    if word(ws, at + 1) != corner(t[1]) {
-        return false;
-    }
-    word(ws, at + 2) == corner(t[2])
+    same(ws, cs, |c| u64::from(*c))
 }
 
 // The same of a list of triangles, whose corners are stored one after the other.
-pub fn same_triangles(ws: &[u64], out: &[[u32; 3]]) -> bool
-    requires { length out.now ≤ 256 }
-{
-    let n = out.len();
-    if !holds(ws, 3 * n) {
-        return false;
-    }
-    let mut i = 0;
-    while i < n {
-        if !same_triangle(ws, 3 * i + 1, out[i]) {
-            return false;
-        }
-        i += 1;
-    }
-    true
+pub fn same_triangles(ws: &[u64], out: &[[u32; 3]]) -> bool {
+    same_corners(ws, out.as_flattened())
 }

@@ -3,15 +3,14 @@ ghost use Rattle.std.specs.Prelude.{◌≤◌};
 
 // The word at a place; 0 past the end.
 pub fn word(ws: &[u64], at: usize) -> u64 {
-    if at < ws.len() { ws[at] } else { 0 }
+    ws.get(at).copied().unwrap_or(0)
 }
 
 // The word at a place, or `most` where it is larger.
 pub fn capped(ws: &[u64], at: usize, most: usize) -> usize
     ensures { result ≤ most }
 {
-    let w = word(ws, at) as usize;
-    if w < most { w } else { most }
+    (word(ws, at) as usize).min(most)
 }
 
 // The lowest 32 bits of a word, and the lowest 8.
@@ -23,22 +22,10 @@ pub fn lowest(w: u64) -> u8 {
     (w % 256) as u8
 }
 
-// A code as a word.
-pub fn wide(code: u8) -> u64 {
-    code as u64
-}
-
 // The words from a place on, at most n of them, as far as there are any.
 pub fn part(ws: &[u64], at: usize, n: usize) -> &[u64] {
-    let all = ws.len();
-    if all < at {
-        return &ws[..0];
-    }
-    if all - at < n {
-        &ws[at..]
-    } else {
-        &ws[at..at + n]
-    }
+    let rest = ws.get(at..).unwrap_or(&[]);
+    rest.get(..n).unwrap_or(rest)
 }
 
 // The number whose pattern is the word at a place.
@@ -48,10 +35,10 @@ pub fn argument(q: &[u64], at: usize) -> f64 {
 
 // The numbers from a place on, as far as there are any.
 pub fn from(xs: &[f64], at: usize) -> &[f64] {
-    if xs.len() < at { &xs[..0] } else { &xs[at..] }
+    xs.get(at..).unwrap_or(&[])
 }
 
 // The number at a place; 0 past the end.
 pub fn number(xs: &[f64], at: usize) -> f64 {
-    if at < xs.len() { xs[at] } else { 0.0 }
+    xs.get(at).copied().unwrap_or(0.0)
 }

@@ -2,7 +2,7 @@
 // line's lists: planes or another outline behind the coordinates, a second cell behind each list of the first.
 use crate::{answered, others};
 use question_lists::lent;
-use question_lists::words::{argument, capped, low, wide, word};
+use question_lists::words::{argument, capped, low, word};
 
 // A face by planes; the arguments are how many numbers the vertices have, the face and the tolerance.
 fn face(
@@ -93,7 +93,7 @@ fn in_lists(
     second: &mut [f64],
 ) -> bool {
     let code = ask(q, coords, corners, ends, values, counts, first, second);
-    if !answered(q, wide(code), values, counts) {
+    if !answered(q, u64::from(code), values, counts) {
         return false;
     }
     same_work(others(q), first, second)

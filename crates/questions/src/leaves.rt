@@ -1,6 +1,6 @@
 // The leaves on f64. Those that return a number have its pattern for a code.
 use crate::unknown;
-use question_lists::words::{argument, from, number, wide, word};
+use question_lists::words::{argument, from, number, word};
 
 // What a leaf returns whose numbers are the arguments.
 pub fn returned(q: &[u64]) -> u64 {
@@ -14,7 +14,7 @@ pub fn returned(q: &[u64]) -> u64 {
         64 => floats::pattern(abi::leaves::wegrusamt_hypot(x, y)),
         65 => abi::leaves::wegrusamt_pattern(x),
         66 => floats::pattern(abi::leaves::wegrusamt_of_pattern(word(q, 1))),
-        _ => wide(unknown(q)),
+        _ => u64::from(unknown(q)),
     }
 }
 
@@ -28,12 +28,12 @@ pub fn on_numbers(q: &[u64], coords: &[f64], values: &mut [f64]) -> u64 {
             number(xs, 1),
             number(xs, 2),
         ) as u64,
-        72 => wide(same_side(xs)),
-        73 => wide(coplanar_opposite(xs)),
-        74 => wide(project2(xs, word(q, 2) as usize, values)),
-        75 => wide(segment_intersection(xs, values)),
-        76 => wide(segment_plane_intersection(xs, values)),
-        _ => wide(unknown(q)),
+        72 => u64::from(same_side(xs)),
+        73 => u64::from(coplanar_opposite(xs)),
+        74 => u64::from(project2(xs, word(q, 2) as usize, values)),
+        75 => u64::from(segment_intersection(xs, values)),
+        76 => u64::from(segment_plane_intersection(xs, values)),
+        _ => u64::from(unknown(q)),
     }
 }
 

@@ -12,7 +12,7 @@ mod points;
 mod turned;
 
 use question_lists::lent;
-use question_lists::words::{capped, part, wide, word};
+use question_lists::words::{capped, part, word};
 
 // The stored lists of a question; those behind the numbers; those behind the counts.
 fn lists(q: &[u64]) -> &[u64] {
@@ -53,14 +53,14 @@ fn ask(
     counts: &mut [usize],
 ) -> u64 {
     match word(q, 0) / 10 {
-        1 => wide(cells::measured(q, coords, corners, ends, values)),
-        2 => wide(cells::counted(q, coords, corners, ends, counts)),
-        3 => wide(cells::surveyed(q, coords, corners, ends, counts, values)),
-        4 => wide(points::measured(q, coords, values)),
-        5 => wide(points::shape(q, coords, values, counts)),
+        1 => u64::from(cells::measured(q, coords, corners, ends, values)),
+        2 => u64::from(cells::counted(q, coords, corners, ends, counts)),
+        3 => u64::from(cells::surveyed(q, coords, corners, ends, counts, values)),
+        4 => u64::from(points::measured(q, coords, values)),
+        5 => u64::from(points::shape(q, coords, values, counts)),
         6 => leaves::returned(q),
         7 => leaves::on_numbers(q, coords, values),
-        _ => wide(unknown(q)),
+        _ => u64::from(unknown(q)),
     }
 }
 

@@ -3,14 +3,14 @@ ghost use Rattle.std.specs.Prelude.{◌≤◌, length};
 
 use crate::{answered, others};
 use question_lists::lent;
-use question_lists::words::{capped, low, wide, word};
+use question_lists::words::{capped, low, word};
 
 // Whether the code, the numbers and the counts are as stored, and one list more is stored beside them.
 fn answered_beside(q: &[u64], code: u8, values: &[f64], counts: &[usize]) -> bool {
     if lent::behind(others(q)).len() != 0 {
         return false;
     }
-    answered(q, wide(code), values, counts)
+    answered(q, u64::from(code), values, counts)
 }
 
 // Whether the faces are turned outward as stored.

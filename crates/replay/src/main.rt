@@ -10,11 +10,22 @@ use std::io::{ErrorKind, Read};
 use stored_answers::Verdict;
 
 // What has been replayed so far.
-#[derive(Clone, Copy)]
+#[derive(Clone, Copy, Default)]
 struct Totals {
     cases: u64,
     asked: u64,
     different: u64,
+}
+
+impl Totals {
+    // With one case more.
+    fn with(self, v: Verdict) -> Totals {
+        Totals {
+            cases: self.cases.wrapping_add(1),
+            asked: self.asked.wrapping_add(v.asked),
+            different: self.different.wrapping_add(v.different),
+        }
+    }
 }
 
 // Writes ` same`, or ` different`, how many questions and of how many.
@@ -35,10 +46,7 @@ fn print_totals(rt: &impl Print, t: Totals) -> io::Result<()> {
 
 // Whether a line is a case: not empty, and no remark.
 fn is_case(line: &[u8]) -> bool {
-    if line.len() == 0 {
-        return false;
-    }
-    line[0] != b'#'
+    line.first().is_some_and(|b| *b != b'#')
 }
 
 // Replays a line, and returns the totals with it.
@@ -50,33 +58,21 @@ fn replay(rt: &impl Print, t: Totals, line: &[u8]) -> io::Result<Totals> {
     let v = stored_answers::judge(&line[end..]);
     rt.write_all(&line[0..end])?;
     print_verdict(rt, v)?;
-    Ok(Totals {
-        cases: t.cases.wrapping_add(1),
-        asked: t.asked.wrapping_add(v.asked),
-        different: t.different.wrapping_add(v.different),
-    })
+    Ok(t.with(v))
 }
 
 // Replays one line after the other, and returns the totals with them.
 fn replay_all(rt: &impl Print, start: Totals, text: &[u8]) -> io::Result<Totals>
     requires { length text.now ≤ 65536 }
 {
-    let n = text.len();
     let mut t = start;
-    let mut at = 0;
-    while at < n {
-        let end = stored_answers::line_end(text, at);
-        t = replay(rt, t, &text[at..end])?;
-        at = end + 1;
+    let mut rest = text;
+    while !rest.is_empty() {
+        let end = stored_answers::line_end(rest, 0);
+        t = replay(rt, t, &rest[..end])?;
+        rest = rest.get(end + 1..).unwrap_or(&[]);
     }
     Ok(t)
-}
-
-// A part's room, from a function whose contract has its length: the list itself is then never computed with.
-fn text_room() -> [u8; 65536]
-    ensures { 65536 ≡ length result }
-{
-    [0; 65536]
 }
 
 // Reads once; a read that a signal interrupts gives no byte, and is to be tried again.
@@ -114,7 +110,7 @@ fn read_full(from: &mut impl Read, text: &mut [u8]) -> io::Result<usize>
 
 // Reads the next part of the input, which ends with a whole line, and replays it.
 fn replay_part(rt: &impl Print, from: &mut impl Read, t: Totals) -> io::Result<Totals> {
-    let mut text = text_room();
+    let mut text = [0; 65536];
     let n = read_full(from, &mut text)?;
     replay_all(rt, t, &text[0..n])
 }
@@ -122,15 +118,9 @@ fn replay_part(rt: &impl Print, from: &mut impl Read, t: Totals) -> io::Result<T
 // The list has at most 64 parts; past its end a part is empty.
 fn main(rt: HostRuntime) -> io::Result<()> {
     let mut from = rt.stdin();
-    let mut t = Totals {
-        cases: 0,
-        asked: 0,
-        different: 0,
-    };
-    let mut k: usize = 0;
-    while k < 64 {
+    let mut t = Totals::default();
+    for _ in 0..64 {
         t = replay_part(&rt, &mut from, t)?;
-        k += 1;
     }
     print_totals(&rt, t)
 }

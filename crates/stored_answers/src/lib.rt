@@ -11,7 +11,7 @@ ghost use Rattle.std.specs.Prelude.{◌≤◌, ◌<◌, ◌≡◌, length};
 use question_lists::words;
 
 // How many questions a line asks, and how many of them are answered otherwise than stored.
-#[derive(Clone, Copy)]
+#[derive(Clone, Copy, Default)]
 pub struct Verdict {
     pub asked: u64,
     pub different: u64,
@@ -34,7 +34,7 @@ pub fn name_end(s: &[u8]) -> usize
 
 // The words that stand in a line behind its name, and what comes of them.
 pub fn judge(line: &[u8]) -> Verdict {
-    let mut words = words_room();
+    let mut words = [0; 8192];
     let n = text::read(line, &mut words);
     case(&words[0..n])
 }
@@ -51,98 +51,39 @@ fn case(ws: &[u64]) -> Verdict {
     questions(coords, corners, ends, rest)
 }
 
-// Asks one question after the other.
+// Asks one question after the other. One that is cut off ends with the line.
 fn questions(coords: &[u64], corners: &[u64], ends: &[u64], ws: &[u64]) -> Verdict {
-    let n = ws.len();
-    let mut at = 0;
-    let mut asked = 0;
-    let mut different = 0;
-    while at < n {
-        let end = question_end(ws, at);
-        if !agrees(coords, corners, ends, &ws[at + 1..end]) {
-            different += 1;
+    let mut verdict = Verdict::default();
+    let mut rest = ws;
+    while let Some((size, behind)) = rest.split_first() {
+        let (question, next) = behind.split_at(behind.len().min(*size as usize));
+        if !agrees(coords, corners, ends, question) {
+            verdict.different += 1;
         }
-        asked += 1;
-        at = end;
+        verdict.asked += 1;
+        rest = next;
     }
-    Verdict { asked, different }
+    verdict
 }
 
 // Whether a question is answered as stored. The cell's lists are made anew for each, since an entry may write into them.
 fn agrees(coords: &[u64], corners: &[u64], ends: &[u64], q: &[u64]) -> bool {
-    let mut xs = coords_room();
-    let mut cs = corners_room();
-    let mut es = ends_room();
-    let nc = put_numbers(coords, &mut xs);
-    let nk = put_corners(corners, &mut cs);
-    let ne = put_corners(ends, &mut es);
+    let mut xs = [0.0; 1280];
+    let mut cs = [0; 4096];
+    let mut es = [0; 512];
+    let nc = put(coords, &mut xs, floats::of_pattern);
+    let nk = put(corners, &mut cs, words::low);
+    let ne = put(ends, &mut es, words::low);
     questions::agrees(q, &mut xs[0..nc], &mut cs[0..nk], &es[0..ne])
 }
 
-// Where the question that begins at `at` ends; one that is cut off ends with the line.
-fn question_end(ws: &[u64], at: usize) -> usize
-    requires { at < length ws.now }
-    ensures { (at < result) × (result ≤ length ws.now) }
-{
-    let room = ws.len() - at - 1;
-    let size = words::capped(ws, at, room);
-    at + 1 + size
-}
-
-// The smaller of two counts.
-fn smaller(a: usize, b: usize) -> usize
-    ensures { (result ≤ a) × (result ≤ b) }
-{
-    if a < b { a } else { b }
-}
-
-// The numbers with these patterns, at the front of a list, and how many there was room for.
-fn put_numbers(ws: &[u64], out: &mut [f64]) -> usize
+// What the words are made into, at the front of a list, and how many there was room for.
+fn put<T: Copy, F: Fn(u64) -> T>(ws: &[u64], out: &mut [T], value_of: F) -> usize
+    requires { F.IsAlwaysCallable value_of }
     ensures { result ≤ length out.old }
 {
-    let n = smaller(ws.len(), out.len());
-    let mut i = 0;
-    while i < n {
-        out[i] = floats::of_pattern(ws[i]);
-        i += 1;
+    for (place, w) in out.iter_mut().zip(ws) {
+        *place = value_of(*w);
     }
-    n
-}
-
-// The words, cut to 32 bits, at the front of a list, and how many there was room for.
-fn put_corners(ws: &[u64], out: &mut [u32]) -> usize
-    ensures { result ≤ length out.old }
-{
-    let n = smaller(ws.len(), out.len());
-    let mut i = 0;
-    while i < n {
-        out[i] = words::low(ws[i]);
-        i += 1;
-    }
-    n
-}
-
-// The lists of a line, each from a function whose contract has its length: the list itself is then never computed with.
-fn words_room() -> [u64; 8192]
-    ensures { 8192 ≡ length result }
-{
-    [0; 8192]
-}
-
-fn coords_room() -> [f64; 1280]
-    ensures { 1280 ≡ length result }
-{
-    [0.0; 1280]
-}
-
-fn corners_room() -> [u32; 4096]
-    ensures { 4096 ≡ length result }
-{
-    [0; 4096]
-}
-
-fn ends_room() -> [u32; 512]
-    ensures { 512 ≡ length result }
-{
-    [0; 512]
+    ws.len().min(out.len())
 }

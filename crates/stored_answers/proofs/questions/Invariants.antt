@@ -1,11 +1,11 @@
 -- `stored_answers::questions` meets its contract: each question takes a word or more, so there are no more questions than words, no more
 -- different ones than questions, and the loop comes to the end of the line.
-use Prim.Native.Nat.{◌-◌, ◌≤◌}
+use Rattle.std.proofs.Common.{◌+◌, ◌≤◌, length}
 use Rattle.stored_answers.proofs.questions.Given as goal
 
-abbrev pub invariant-loop-at : goal.invariant-loop-at
-invariant-loop-at l =
-    (l.at ≤ l.n) × (l.asked ≤ l.at) × (l.different ≤ l.asked)
+abbrev pub invariant-loop-size : goal.invariant-loop-size
+invariant-loop-size l =
+    (l.verdict.asked + length l.rest ≤ length l.ws) × (l.verdict.different ≤ l.verdict.asked)
 
-abbrev pub decreases-loop-at : goal.decreases-loop-at
-decreases-loop-at l = l.n - l.at
+abbrev pub decreases-loop-size : goal.decreases-loop-size
+decreases-loop-size l = length l.rest

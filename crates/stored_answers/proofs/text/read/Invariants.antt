@@ -1,11 +1,9 @@
--- `stored_answers::text::read` meets its contract: the loop goes on only while a word more has room, and a byte finishes at most one word.
-use mathlib.Core.Path.{◌≡◌}
-use Prim.Native.Nat.{◌-◌, ◌≤◌}
-use lib.ListN.{length}
+-- `stored_answers::text::read` meets its contract: it counts the places that it has written to.
+use Rattle.std.proofs.Common.{◌≡◌, length}
 use Rattle.stored_answers.proofs.text.read.Given as goal
 
-abbrev pub invariant-loop-i : goal.invariant-loop-i
-invariant-loop-i l = (length l.out ≡ length l.initial.out) × (l.r.count ≤ l.m)
-
-abbrev pub decreases-loop-i : goal.decreases-loop-i
-decreases-loop-i l = l.n - l.i
+abbrev pub invariant-loop-place : goal.invariant-loop-place
+invariant-loop-place l =
+    (goal.iterator-loop-place).can_next l.place-iterator ×
+    (goal.iterator-loop-place).is_finite l.place-iterator ×
+    (l.count ≡ length l.yielded)

@@ -2,13 +2,13 @@
 -- other, for `put_decimal` and `put_hex`.
 use mathlib.Core.Path.{◌≡◌, refl, sym, ap, ◌∙◌}
 use mathlib.Core.Bool.{Bool, true, false, cond}
-use mathlib.Core.List.{List, [], ◌∷◌, ◌++◌}
+use mathlib.Core.List.{List, [], ◌∷◌, ◌++◌, append_assoc}
 use Prim.Native.Nat.{ℕ, zero, suc, ◌+◌, ◌*◌, ◌/◌, ◌%◌, ◌^◌, ◌-◌, ◌<◌, ◌≤◌}
 use native.Mathlib.Nat.{add-zero, add-suc, suc-add, pow-suc}
-use native.Mathlib.Numerals.{add-one}
 use native.Mathlib.Omega.{arith}
-use lib.ListN.{length, get_or, take, set, length-append}
-use lib.Seq.{sets, take-suc, length-take-le}
+use lib.ListN.{length, take, drop, set, length-append}
+use lib.Seq.{sets, sets-eq, drop-drop}
+use borrow.Rule.Slice.PartMut.{put_mid}
 use lib.Dec.{ltb}
 use borrow.Author.Tests.{lt-ltb, le-ltb}
 use Rattle.lines.specs.Text.{Put, decimal, decimal_of, hex_of, digit_of}
@@ -26,12 +26,12 @@ then {b} {at} {xs} {m} {p} {ys} f g =
       ends = simp length-append (omega (arith, f.ends, g.ends));
     }
 
--- a step of the loop that copies
-pub sets_more : (l : List ℕ) (at : ℕ) (s : List ℕ) (i : ℕ) → i < length s
-    → set (sets l at (take i s)) (at + i) (get_or s i 0) ≡ sets l at (take (i + 1) s)
-sets_more l at s i h =
-    let e : length (take i s) ≡ i = length-take-le i s (omega arith) in
-    rw (add-one i, take-suc s i 0, sets_append l at (take i s) (get_or s i 0 ∷ []), e)
+-- a part of the list is the text, and the rest is as it was
+pub put_part : (l : List ℕ) (at : ℕ) (s : List ℕ) {m : List ℕ} → m ≡ s → at + length s ≤ length l
+    → put_mid at (at + length s - at) l m ≡ sets l at s
+put_part l at s e h =
+    let n : at + length s - at ≡ length s = omega arith in
+    rw (e, n, drop-drop (length s) at l) (sym (append_assoc (take at l) s (drop (at + length s) l)) ∙ sym (sets-eq s l at h))
 
 -- digits: there are no more than the bound, and a larger bound gives no more
 short : (b : Bool) (x y : ℕ) (l : List ℕ) (k : ℕ) → length l ≤ k → length (cond b (x ∷ []) (l ++ (y ∷ []))) ≤ suc k

@@ -19,12 +19,9 @@ fn put_text(out: &mut [u8], at: usize, text: &[u8]) -> usize
     requires { at + length text.now ≤ length out.old }
     ensures { Put out.old at text.now out.new result }
 {
-    let mut i = 0;
-    while i < text.len() {
-        out[at + i] = text[i];
-        i += 1;
-    }
-    at + text.len()
+    let end = at + text.len();
+    out[at..end].copy_from_slice(text);
+    end
 }
 
 // Up to 20 digits.
@@ -34,17 +31,21 @@ fn put_decimal(out: &mut [u8], at: usize, n: u64) -> usize
     ensures upper_bound { result ≤ at + 20 }
 {
     if n < 10 {
-        return put_byte(out, at, 48 + n as u8);
+        return put_byte(out, at, b'0' + n as u8);
     }
     let p = put_decimal(out, at, n / 10);
-    put_byte(out, p, 48 + (n % 10) as u8)
+    put_byte(out, p, b'0' + (n % 10) as u8)
 }
 
 fn digit(d: u64) -> u8
     requires { d < 16 }
     ensures { result ≡ digit_of d }
 {
-    if d < 10 { 48 + d as u8 } else { 55 + d as u8 }
+    if d < 10 {
+        b'0' + d as u8
+    } else {
+        b'A' - 10 + d as u8
+    }
 }
 
 // The last k digits of n in base 16.
@@ -88,7 +89,7 @@ pub fn put_refused(out: &mut [u8], at: usize, number: u64, why: u8) -> usize
     ensures upper_bound { result ≤ at + 256 }
 {
     let p1 = put_field(out, at, b"cell ", number);
-    let p2 = put_field(out, p1, b" refused ", why as u64);
+    let p2 = put_field(out, p1, b" refused ", u64::from(why));
     put_byte(out, p2, 10)
 }
 

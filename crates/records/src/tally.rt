@@ -34,34 +34,18 @@ fn why(fine: bool, n: usize, most: usize) -> u8
     if n < most { 0 } else { 1 }
 }
 
+#[tactic(auto, unfolding(crate::specs::Tally::corner_fine))]
 fn corner_fine(r: Rec) -> bool
     ensures { result ≡ corner_fine r }
 {
-    if !r.clear {
-        return false;
-    }
-    if r.b != 0 {
-        return false;
-    }
-    if r.c != 0 {
-        return false;
-    }
-    r.a < 4294967296
+    r.clear && r.b == 0 && r.c == 0 && r.a < 4294967296
 }
 
+#[tactic(auto, unfolding(crate::specs::Tally::end_fine))]
 fn end_fine(r: Rec) -> bool
     ensures { result ≡ end_fine r }
 {
-    if !r.clear {
-        return false;
-    }
-    if r.a != 0 {
-        return false;
-    }
-    if r.b != 0 {
-        return false;
-    }
-    r.c == 0
+    r.clear && r.a == 0 && r.b == 0 && r.c == 0
 }
 
 // Stores the three fields as numbers.
@@ -95,10 +79,11 @@ impl Tally {
     pub fn refused(self, why: u8) -> Tally
         ensures { result ≡ refused_of self why }
     {
-        let mut t = self;
-        t.refusal = why;
-        t.begun = true;
-        t
+        Tally {
+            refusal: why,
+            begun: true,
+            ..self
+        }
     }
 
     // Kind 1.
@@ -110,10 +95,11 @@ impl Tally {
         let w = why(r.clear, self.verts, places::limits::MOST_VERTICES);
         if w == 0 {
             put_point(coords, self.verts * 3, r);
-            let mut t = self;
-            t.verts = self.verts + 1;
-            t.begun = true;
-            return t;
+            return Tally {
+                verts: self.verts + 1,
+                begun: true,
+                ..self
+            };
         }
         self.refused(w)
     }
@@ -126,13 +112,13 @@ impl Tally {
     {
         let w = why(corner_fine(r), self.corners, places::limits::MOST_CORNERS);
         if w == 0 {
-            let at = self.corners;
-            corners[at] = r.a as u32;
-            let mut t = self;
-            t.corners = at + 1;
-            t.loose = true;
-            t.begun = true;
-            return t;
+            corners[self.corners] = r.a as u32;
+            return Tally {
+                corners: self.corners + 1,
+                loose: true,
+                begun: true,
+                ..self
+            };
         }
         self.refused(w)
     }
@@ -145,30 +131,29 @@ impl Tally {
     {
         let w = why(end_fine(r), self.faces, places::limits::MOST_FACES);
         if w == 0 {
-            let at = self.faces;
-            ends[at] = self.corners as u32;
-            let mut t = self;
-            t.faces = at + 1;
-            t.loose = false;
-            t.begun = true;
-            return t;
+            ends[self.faces] = self.corners as u32;
+            return Tally {
+                faces: self.faces + 1,
+                loose: false,
+                begun: true,
+                ..self
+            };
         }
         self.refused(w)
     }
 
     // Kind 4, before the cell's line.
+    #[tactic(auto, unfolding(crate::specs::Tally::cell_end_taken, crate::specs::Tally::why_of))]
     pub fn cell_end(self, r: Rec) -> Tally
         ensures { result ≡ cell_end_taken self r }
     {
-        if !end_fine(r) {
+        if !end_fine(r) || self.loose {
             return self.refused(7);
         }
-        if self.loose {
-            return self.refused(7);
+        Tally {
+            begun: true,
+            ..self
         }
-        let mut t = self;
-        t.begun = true;
-        t
     }
 
     // Kind 5.
@@ -180,10 +165,11 @@ impl Tally {
         let w = why(r.clear, self.queries, places::limits::MOST_QUERIES);
         if w == 0 {
             put_point(queries, self.queries * 3, r);
-            let mut t = self;
-            t.queries = self.queries + 1;
-            t.begun = true;
-            return t;
+            return Tally {
+                queries: self.queries + 1,
+                begun: true,
+                ..self
+            };
         }
         self.refused(w)
     }
@@ -205,8 +191,7 @@ impl Tally {
         if self.refusal != 0 {
             return self;
         }
-        let kind = r.kind;
-        match kind {
+        match r.kind {
             1 => self.vertex(r, coords),
             2 => self.corner(r, corners),
             3 => self.face_end(r, ends),

@@ -1,4 +1,3 @@
 pub mod Taken
-pub mod Moving
 pub mod Joining
 pub mod Split

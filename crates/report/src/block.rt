@@ -72,13 +72,11 @@ pub fn take_block(
     let n = s.len() / 32;
     let mut t = start;
     let mut made = 0;
-    let mut k = 0;
-    while k < n {
+    for k in 0..n {
         let r = read_record(s, k * 32);
         let d = take_record(t, r, coords, corners, ends, queries, out, made);
         t = d.tally;
         made = d.made;
-        k += 1;
     }
     Taken { tally: t, made }
 }

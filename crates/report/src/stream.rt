@@ -13,12 +13,7 @@ fn to_front(b: &mut [u8], from: usize, to: usize)
     requires { (from ≤ to) × (to ≤ length b.old) }
     ensures { b.new ≡ moved_of b.old from (to - from) }
 {
-    let n = to - from;
-    let mut i = 0;
-    while i < n {
-        b[i] = b[from + i];
-        i += 1;
-    }
+    b.copy_within(from..to, 0);
 }
 
 // After a block: the tally, how many bytes wait at its front, and how much is written.

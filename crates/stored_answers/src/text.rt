@@ -25,14 +25,19 @@ fn digit(b: u8) -> Option<u64>
 
 // The word with these digits; a digit too many pushes the first one out.
 fn word(digits: &[u8]) -> u64 {
-    digits.iter().filter_map(|b| digit(*b)).fold(0, |w, d| w << 4 | d)
+    digits
+        .iter()
+        .filter_map(|b| digit(*b))
+        .fold(0, |w, d| w << 4 | d)
 }
 
 // Reads a line's words, which are the runs of hex digits, into a list, and returns how many; words past the list's end are left out.
 pub fn read(line: &[u8], out: &mut [u64]) -> usize
     ensures { result ≤ length out.old }
 {
-    let mut words = line.split(|b| digit(*b).is_none()).filter(|run| !run.is_empty());
+    let mut words = line
+        .split(|b| digit(*b).is_none())
+        .filter(|run| !run.is_empty());
     let mut count = 0;
     for (place, run) in out.iter_mut().zip(words) {
         *place = word(run);

@@ -4,4 +4,4 @@ use Rattle.records.proofs.bytes.clear.Goals as goal
 
 pub returns : goal.returns
 returns c =
-    rw (c.word.ensures, c.wide.ensures.0) (clear_word c.args.s.now c.args.at)
+    rw (c.word.ensures, c.from.ensures) (clear_word c.args.s.now c.args.at)

@@ -1,7 +1,7 @@
--- `records::bytes::word` meets its contract: the sum is the definition's, and each of its eight bytes is below 256, so it fits 64 bits.
-use Rattle.records.specs.Bytes.{word_of}
+-- `records::bytes::word` meets its contract: the library's word of the eight bytes is the definition's.
+use mathlib.Core.Path.{◌∙◌}
+use Rattle.records.proofs.Words.{word_bytes}
 use Rattle.records.proofs.bytes.word.Goals as goal
 
 pub returns : goal.returns
-unfolding word_of
-returns c = cc
+returns c = c.from_le_bytes.ensures ∙ word_bytes c.args.s.now c.args.at

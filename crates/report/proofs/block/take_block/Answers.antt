@@ -26,9 +26,9 @@ loop-k-preserved c =
     let lists = lent_of args.coords.now args.corners.now args.ends.now args.queries.now in
     let i = c.loop-k.invariant in
     let d = c.take_record-d in
-    let there : (c.loop-k.k + 1) * 32 ≤ length args.s.now = omega (arith, c.loop-k-test.true) in
+    let there : (c.loop-k.k + 1) * 32 ≤ length args.s.now = omega arith in
     record {
-      bound = omega (arith, c.loop-k-test.true);
+      bound = omega arith;
       held = after_step first args.s.now c.loop-k.k there i.held c.read_record-r.ensures d.ensures.queries_value;
       put = lines_step first args.s.now c.loop-k.k there i.held c.read_record-r.ensures i.put d.ensures.put;
       lent = stored_step first args.s.now c.loop-k.k there i.held c.read_record-r.ensures lists i.lent d.ensures.queries_value_2;
@@ -44,12 +44,12 @@ loop-k-preserved c =
 
 pub returns-clause-queries_value : goal.returns-clause-queries_value
 returns-clause-queries_value c =
-    rw (all_of c.args.s.now c.loop-k.k (omega (arith, c.loop-k-test.false, c.loop-k.invariant.bound))) at c.loop-k.invariant.held
+    rw (all_of c.args.s.now c.loop-k.k (omega arith)) at c.loop-k.invariant.held
 
 pub returns-clause-queries_value_2 : goal.returns-clause-queries_value_2
 returns-clause-queries_value_2 c =
-    rw (all_of c.args.s.now c.loop-k.k (omega (arith, c.loop-k-test.false, c.loop-k.invariant.bound))) at c.loop-k.invariant.lent
+    rw (all_of c.args.s.now c.loop-k.k (omega arith)) at c.loop-k.invariant.lent
 
 pub returns-clause-put : goal.returns-clause-put
 returns-clause-put c =
-    rw (all_of c.args.s.now c.loop-k.k (omega (arith, c.loop-k-test.false, c.loop-k.invariant.bound))) at c.loop-k.invariant.put
+    rw (all_of c.args.s.now c.loop-k.k (omega arith)) at c.loop-k.invariant.put

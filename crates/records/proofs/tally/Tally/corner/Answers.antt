@@ -22,14 +22,14 @@ pub overflow_cast-corners : goal.overflow_cast-corners
 overflow_cast-corners c =
     omega (arith, corner_fits c.args.r (ltb c.args.self.corners 2048) (fine (goal.at.overflow_cast-corners c).Then-w-eq0))
 
-pub offset_bounds-corners-at : goal.offset_bounds-corners-at
-offset_bounds-corners-at c = omega (arith, room (goal.at.offset_bounds-corners-at c).Then-w-eq0)
+pub offset_bounds-corners-self : goal.offset_bounds-corners-self
+offset_bounds-corners-self c = omega (arith, room (goal.at.offset_bounds-corners-self c).Then-w-eq0)
 
-pub bounds-corners-at : goal.bounds-corners-at
-bounds-corners-at c = omega (arith, room (goal.at.bounds-corners-at c).Then-w-eq0)
+pub bounds-corners-self : goal.bounds-corners-self
+bounds-corners-self c = omega (arith, room (goal.at.bounds-corners-self c).Then-w-eq0)
 
-pub overflow_add-t : goal.overflow_add-t
-overflow_add-t c = omega (arith, room (goal.at.overflow_add-t c).Then-w-eq0)
+pub overflow_add-result : goal.overflow_add-result
+overflow_add-result c = omega (arith, room (goal.at.overflow_add-result c).Then-w-eq0)
 
 pub returns-then-w-eq0 : goal.returns-then-w-eq0
 unfolding corner_taken

@@ -17,14 +17,14 @@ fine c = cc
 room : (c : Then-w-eq0) → c.args.self.faces < 256
 room c = why_room (end_fine c.args.r) c.args.self.faces 256 (fine c)
 
-pub offset_bounds-ends-at : goal.offset_bounds-ends-at
-offset_bounds-ends-at c = omega (arith, room (goal.at.offset_bounds-ends-at c).Then-w-eq0)
+pub offset_bounds-ends-self : goal.offset_bounds-ends-self
+offset_bounds-ends-self c = omega (arith, room (goal.at.offset_bounds-ends-self c).Then-w-eq0)
 
-pub bounds-ends-at : goal.bounds-ends-at
-bounds-ends-at c = omega (arith, room (goal.at.bounds-ends-at c).Then-w-eq0)
+pub bounds-ends-self : goal.bounds-ends-self
+bounds-ends-self c = omega (arith, room (goal.at.bounds-ends-self c).Then-w-eq0)
 
-pub overflow_add-t : goal.overflow_add-t
-overflow_add-t c = omega (arith, room (goal.at.overflow_add-t c).Then-w-eq0)
+pub overflow_add-result : goal.overflow_add-result
+overflow_add-result c = omega (arith, room (goal.at.overflow_add-result c).Then-w-eq0)
 
 pub returns-then-w-eq0 : goal.returns-then-w-eq0
 unfolding face_end_taken

@@ -23,8 +23,8 @@ overflow_mul-self c = omega (arith, room (goal.at.overflow_mul-self c).Then-w-eq
 pub put_point-requires : goal.put_point-requires
 put_point-requires c = omega (arith, room (goal.at.put_point-requires c).Then-w-eq0)
 
-pub overflow_add-t : goal.overflow_add-t
-overflow_add-t c = omega (arith, room (goal.at.overflow_add-t c).Then-w-eq0)
+pub overflow_add-result : goal.overflow_add-result
+overflow_add-result c = omega (arith, room (goal.at.overflow_add-result c).Then-w-eq0)
 
 pub returns-then-w-eq0 : goal.returns-then-w-eq0
 unfolding query_taken

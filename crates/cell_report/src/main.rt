@@ -280,47 +280,23 @@ fn run<R: Read, W: Write>(
     }
 }
 
-// The arrays, each from a function whose contract has its length: the list itself is never
-// computed with.
-fn block_room() -> [u8; 65536]
-    ensures { 65536 ≡ length result }
+// A list with the same value at each place, from a function whose contract has its length: the list
+// itself is never computed with.
+fn room<T: Copy, const N: usize>(value: T) -> [T; N]
+    ensures { N ≡ length result }
 {
-    [0; 65536]
-}
-
-fn lines_room() -> [u8; 524288]
-    ensures { 524288 ≡ length result }
-{
-    [0; 524288]
-}
-
-fn points_room() -> [f64; 768]
-    ensures { 768 ≡ length result }
-{
-    [0.0; 768]
-}
-
-fn corners_room() -> [u32; 2048]
-    ensures { 2048 ≡ length result }
-{
-    [0; 2048]
-}
-
-fn ends_room() -> [u32; 256]
-    ensures { 256 ≡ length result }
-{
-    [0; 256]
+    [value; N]
 }
 
 fn main(rt: HostRuntime) {
     let mut from = rt.stdin();
     let mut to = rt.stdout();
-    let mut block = block_room();
-    let mut coords = points_room();
-    let mut corners = corners_room();
-    let mut ends = ends_room();
-    let mut queries = points_room();
-    let mut out = lines_room();
+    let mut block: [u8; 65536] = room(0);
+    let mut coords: [f64; 768] = room(0.0);
+    let mut corners: [u32; 2048] = room(0);
+    let mut ends: [u32; 256] = room(0);
+    let mut queries: [f64; 768] = room(0.0);
+    let mut out: [u8; 524288] = room(0);
     run(
         &rt,
         &mut from,

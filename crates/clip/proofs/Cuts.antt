@@ -8,21 +8,23 @@ use native.Mathlib.Omega.{arith}
 use lib.ListN.{length, take, drop, length-take}
 use lib.Seq.{take-append-le, length-take-le}
 use lib.Ieee.{Float}
+use Rattle.std.specs.Prelude.{Result, Ok, Err}
 use Rattle.places.specs.Loops.{count_of}
 use borrow.Author.Tests.{lt-ltb, le-ltb, eq-eqb, ne_eqb}
 use Rattle.places.specs.Stored.{in_threes}
 use Rattle.places.proofs.Stored.{length_threes, threes_take, threes_front}
 use Rattle.flat.specs.Points.{Point}
 use Rattle.planes.specs.declared.Plane.{Plane}
+use Rattle.work_lists.specs.declared.NoRoom.{NoRoom}
 use Rattle.work_lists.specs.declared.Step.{Step}
-use Rattle.work_lists.specs.declared.Step.TheVariants.{Kept, Full, Gone, Made}
+use Rattle.work_lists.specs.declared.Step.TheVariants.{Kept, Gone, Made}
 use Rattle.work_lists.specs.Steps.{Filled, Shows, Moved, shows_whole, shows_full, shows_gone, shows_made}
 use Rattle.work_lists.proofs.Filling.{filled_read, filled_over, filled_within}
 use Rattle.clip_step.specs.Doubled.{without_doubled}
 use Rattle.clip.specs.Clip.{beyond, cut_change, slice, plane_change}
 
-pub cut_full : {room m : ℕ} {cut before after list : List Point} → Filled cut 0 before m after → room < m
-    → Shows room (cut_change room cut) Full list
+pub cut_full : {room m : ℕ} {cut before after list : List Point} {e : NoRoom} → Filled cut 0 before m after → room < m
+    → Shows room (cut_change room cut) (Err e) list
 unfolding cut_change
 cut_full f h = rw (filled_over f h) shows_full
 
@@ -37,11 +39,11 @@ module _ {room m left : ℕ} {cut before : List Point} (after front : List Float
   count_is : left ≡ length (without_doubled cut)
   count_is = rw part_is at count
 
-  pub cut_gone : {list : List Point} → left < 3 → Shows room (cut_change room cut) Gone list
+  pub cut_gone : {list : List Point} → left < 3 → Shows room (cut_change room cut) (Ok Gone) list
   unfolding cut_change
   cut_gone l = rw (filled_within f h, ← count_is, lt-ltb left 3 l) shows_gone
 
-  pub cut_made : 3 ≤ left → length front ≡ m * 3 → Shows room (cut_change room cut) (Made left) (in_threes (front ++ drop (m * 3) after))
+  pub cut_made : 3 ≤ left → length front ≡ m * 3 → Shows room (cut_change room cut) (Ok (Made left)) (in_threes (front ++ drop (m * 3) after))
   unfolding cut_change
   cut_made l n =
       let w : left ≤ length (in_threes front) = omega (arith, length-take left (in_threes front), ap length stands, count) in
@@ -66,24 +68,24 @@ outline_length false n a b h g = length-take-le n a h
 
 module _ {room n : ℕ} (eps : Float) {plane : Plane} {second : Bool} {a b : List Point} (h : n ≤ length a) (g : n ≤ length b) where
   -- neither list is written to where the plane makes no cut
-  still : {r : Step} → Shows room (plane_change room eps plane (take n (cond second b a))) r (cond second a b)
+  still : {r : Result Step NoRoom} → Shows room (plane_change room eps plane (take n (cond second b a))) r (cond second a b)
       → Moved room (plane_change room eps) plane n second a b r a b
   still s = record { shows = s; same = refl; long = refl }
 
-  pub none_few : n < 3 → Moved room (plane_change room eps) plane n second a b Gone a b
+  pub none_few : n < 3 → Moved room (plane_change room eps) plane n second a b (Ok Gone) a b
   unfolding plane_change
   none_few l = still (rw (outline_length second n a b h g, lt-ltb n 3 l) shows_gone)
 
   module _ {out : ℕ} (l : 3 ≤ n) (e : out ≡ count_of (beyond plane eps) (take n (cond second b a))) where
-    pub none_out : out ≡ 0 → Moved room (plane_change room eps) plane n second a b Kept a b
+    pub none_out : out ≡ 0 → Moved room (plane_change room eps) plane n second a b (Ok Kept) a b
     unfolding plane_change
     none_out z = still (rw (outline_length second n a b h g, le-ltb n 3 l, ← e, eq-eqb out 0 z) shows_whole)
 
-    pub all_out : ¬ (out ≡ 0) → out ≡ n → Moved room (plane_change room eps) plane n second a b Gone a b
+    pub all_out : ¬ (out ≡ 0) → out ≡ n → Moved room (plane_change room eps) plane n second a b (Ok Gone) a b
     unfolding plane_change
     all_out z w = still (rw (outline_length second n a b h g, le-ltb n 3 l, ← e, ne_eqb out 0 z, eq-eqb out n w) shows_gone)
 
-    pub some_out : {r : Step} {a' b' : List Point} → ¬ (out ≡ 0) → ¬ (out ≡ n) → Moved room (slice room eps) plane n second a b r a' b'
+    pub some_out : {r : Result Step NoRoom} {a' b' : List Point} → ¬ (out ≡ 0) → ¬ (out ≡ n) → Moved room (slice room eps) plane n second a b r a' b'
         → Moved room (plane_change room eps) plane n second a b r a' b'
     unfolding plane_change
     some_out z w m =

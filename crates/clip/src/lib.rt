@@ -13,7 +13,7 @@ ghost use Rattle.clip_step.specs.ClipStep.{trimmed_by};
 ghost use Rattle.clip.specs.Clip.{beyond, cut_change, slice, plane_change, clip_face_of};
 
 use planes::Plane;
-use work_lists::{Left, Step};
+use work_lists::{NoRoom, Outline, Step};
 
 // How many points of an outline are beyond a plane.
 fn count_out(src: &[f64], plane: Plane, eps: f64) -> usize
@@ -21,18 +21,16 @@ fn count_out(src: &[f64], plane: Plane, eps: f64) -> usize
 {
     let n = src.len() / 3;
     let mut out = 0;
-    let mut i = 0;
-    while i < n {
+    for i in 0..n {
         if planes::distance(plane, flat::space::vertex(src, i)) > eps {
             out += 1;
         }
-        i += 1;
     }
     out
 }
 
 // An outline cut by a plane into another list, without doubled points.
-fn cut(src: &[f64], dst: &mut [f64], room: usize, plane: Plane, eps: f64) -> Step
+fn cut(src: &[f64], dst: &mut [f64], room: usize, plane: Plane, eps: f64) -> Result<Step, NoRoom>
     requires nonzero { 0 < length (vertices_of src.now) }
     requires src_len_bound { (length src.now ≤ most_work_numbers) × (length dst.old ≤ most_work_numbers) }
     requires room_in_bounds { room ≤ length (vertices_of dst.old) }
@@ -40,13 +38,13 @@ fn cut(src: &[f64], dst: &mut [f64], room: usize, plane: Plane, eps: f64) -> Ste
 {
     let m = clip_step::trim_by_plane(src, dst, plane, eps);
     if room < m {
-        return Step::Full;
+        return Err(NoRoom);
     }
     let left = clip_step::doubled::remove_consecutive_duplicates(&mut dst[0..m * 3]);
     if left < 3 {
-        return Step::Gone;
+        return Ok(Step::Gone);
     }
-    Step::Made(left)
+    Ok(Step::Made(left))
 }
 
 // The outline of n points stands in the first list, or in the second, and is cut into the other.
@@ -58,7 +56,7 @@ fn cut_from(
     room: usize,
     plane: Plane,
     eps: f64,
-) -> Step
+) -> Result<Step, NoRoom>
     requires first_len_bound { (length first.old ≤ most_work_numbers) × (length second.old ≤ most_work_numbers) }
     requires n_nonzero { (0 < n) × (n ≤ room) × (room ≤ length (vertices_of first.old)) × (room ≤ length (vertices_of second.old)) }
     ensures { Moved room (slice room eps) plane n in_second (vertices_of first.old) (vertices_of second.old)
@@ -80,14 +78,14 @@ fn advance(
     room: usize,
     plane: Plane,
     eps: f64,
-) -> Step
+) -> Result<Step, NoRoom>
     requires first_len_bound { (length first.old ≤ most_work_numbers) × (length second.old ≤ most_work_numbers) }
     requires n_le_room { (n ≤ room) × (room ≤ length (vertices_of first.old)) × (room ≤ length (vertices_of second.old)) }
     ensures { Moved room (plane_change room eps) plane n in_second (vertices_of first.old) (vertices_of second.old)
         result (vertices_of first.new) (vertices_of second.new) }
 {
     if n < 3 {
-        return Step::Gone;
+        return Ok(Step::Gone);
     }
     let out = count_out(
         work_lists::shown(first, second, n * 3, in_second),
@@ -95,10 +93,10 @@ fn advance(
         eps,
     );
     if out == 0 {
-        return Step::Kept;
+        return Ok(Step::Kept);
     }
     if out == n {
-        return Step::Gone;
+        return Ok(Step::Gone);
     }
     cut_from(first, second, in_second, n, room, plane, eps)
 }
@@ -111,7 +109,7 @@ fn run(
     room: usize,
     planes: &[f64],
     eps: f64,
-) -> Left
+) -> Result<Option<Outline>, NoRoom>
     requires first_len_bound { (length first.old ≤ most_work_numbers) × (length second.old ≤ most_work_numbers) }
     requires count_le_room { (count ≤ room) × (room ≤ length (vertices_of first.old)) × (room ≤ length (vertices_of second.old)) }
     ensures { Ended (run_of (plane_change room eps) (in_fours planes.now) (outline false (take count (vertices_of first.old))))
@@ -120,14 +118,11 @@ fn run(
     let many = planes.len() / 4;
     let mut n = count;
     let mut in_second = false;
-    let mut i = 0;
-    while i < many {
+    for i in 0..many {
         let plane = planes::plane_at(planes, i);
-        i += 1;
-        match advance(first, second, in_second, n, room, plane, eps) {
+        match advance(first, second, in_second, n, room, plane, eps)? {
             Step::Kept => {}
-            Step::Gone => return Left::Nothing,
-            Step::Full => return Left::NoRoom,
+            Step::Gone => return Ok(None),
             Step::Made(left) => {
                 n = left;
                 in_second = !in_second;
@@ -135,9 +130,12 @@ fn run(
         }
     }
     if n == 0 {
-        return Left::Nothing;
+        return Ok(None);
     }
-    Left::Outline(n, in_second)
+    Ok(Some(Outline {
+        points: n,
+        in_second,
+    }))
 }
 
 // The points of a face laid down at the front of a list.
@@ -147,11 +145,8 @@ fn gather(coords: &[f64], face: &[u32], dst: &mut [f64])
     requires face_len_bound { length face.now ≤ most_corners }
     ensures { take (length face.now) (vertices_of dst.new) ≡ corners_of (vertices_of coords.now) face.now }
 {
-    let n = face.len();
-    let mut i = 0;
-    while i < n {
+    for i in 0..face.len() {
         flat::space::put_vertex(dst, i, flat::space::vertex_at(coords, face, i));
-        i += 1;
     }
 }
 
@@ -165,7 +160,7 @@ pub fn clip_face(
     eps: f64,
     first: &mut [f64],
     second: &mut [f64],
-) -> Left
+) -> Result<Option<Outline>, NoRoom>
     requires inside { Inside (vertices_of coords.now) face.now }
     requires face_len_bound { (length face.now ≤ most_corners) × (length planes.now ≤ 1024) }
     requires first_len_bound { (length first.old ≤ most_work_numbers) × (length second.old ≤ most_work_numbers) }
@@ -175,7 +170,7 @@ pub fn clip_face(
 {
     let room = work_lists::shorter(first.len() / 3, second.len() / 3);
     if room < face.len() {
-        return Left::NoRoom;
+        return Err(NoRoom);
     }
     gather(coords, face, first);
     run(first, second, face.len(), room, planes, eps)
@@ -190,7 +185,7 @@ pub fn clip_face_shown(
     eps: f64,
     first: &mut [f64],
     second: &mut [f64],
-) -> Left
+) -> Result<Option<Outline>, NoRoom>
     requires inside { Inside (vertices_of coords.now) face.now }
     requires face_len_bound { (length face.now ≤ most_corners) × (length planes.now ≤ 1024) }
     requires first_len_bound { (length first.old ≤ most_work_numbers) × (length second.old ≤ most_work_numbers) }

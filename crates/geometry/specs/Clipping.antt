@@ -1,17 +1,17 @@
 -- What clipping and the overlaps answer, and what then stands in the first work list and in the second: both are as they were where a
 -- check refuses.
-use Rattle.std.specs.Prelude.{ℕ, true, false, List, length, replicate, Float}
+use Rattle.std.specs.Prelude.{ℕ, true, false, List, length, replicate, Float, Option, Some, None, Result, Ok, Err}
 use Rattle.places.specs.Stored.{in_pairs}
 use Rattle.floats.specs.F64.{zero64}
 use Rattle.flat.specs.Points.{vertices_of, corners_of}
 use Rattle.cell.specs.Faces.{faces_of}
 use Rattle.planes.specs.Planes.{in_fours}
-use Rattle.work_lists.specs.declared.Left as left
-use Rattle.work_lists.specs.declared.Sum as sum
+use Rattle.work_lists.specs.declared.NoRoom.{NoRoom}
+use Rattle.work_lists.specs.declared.Outline.{Outline}
 use Rattle.work_lists.specs.WorkLists.{Outcome, shorter_of, answer_of, list_after}
 use Rattle.clip.specs.Clip.{clip_face_of}
 use Rattle.planar.specs.Planar.{clip_convex_of, area_answer}
-use Rattle.overlap.specs.declared.SharedSum as overlap
+use Rattle.overlap.specs.declared.Shared.{Shared}
 use Rattle.overlap.specs.Overlap.{overlapped_of}
 use Rattle.refusals.specs.Refusals.{clip_refusal, planar_refusal, overlap_refusal}
 use Rattle.geometry.specs.declared.Number.{Number}
@@ -31,20 +31,20 @@ abbrev pub Overlapping : Type 0
 Overlapping = Overlapped × List Float × List Float
 
 -- what is left, as an entry answers it: no room is refusal 6
-abbrev pub clipped_answer : left.Left → Clipped
-clipped_answer left.Left.Nothing = Clipped.Nothing
-clipped_answer (left.Left.Outline n second) = Clipped.Outline n second
-clipped_answer left.Left.NoRoom = Clipped.Refused 6
+abbrev pub clipped_answer : Result (Option Outline) NoRoom → Clipped
+clipped_answer (Ok None) = Clipped.Nothing
+clipped_answer (Ok (Some left)) = Clipped.Outline left.points left.in_second
+clipped_answer (Err e) = Clipped.Refused 6
 
 -- a sum over what is left, as an entry answers it: no room is refusal 6
-abbrev pub number_of : sum.Sum → Number
-number_of (sum.Sum.Is x) = Number.Is x
-number_of sum.Sum.NoRoom = Number.Refused 6
+abbrev pub number_of : Result Float NoRoom → Number
+number_of (Ok x) = Number.Is x
+number_of (Err e) = Number.Refused 6
 
 -- the overlap of two cells, as an entry answers it: no room is refusal 6, and the number alone is told
-abbrev pub shared_answer : overlap.SharedSum → Overlapped
-shared_answer (overlap.SharedSum.Is o) = Overlapped.Is (record { volume = o.volume; arealess = o.arealess; arealess2 = o.arealess2 })
-shared_answer overlap.SharedSum.NoRoom = Overlapped.Refused 6
+abbrev pub shared_answer : Result Shared NoRoom → Overlapped
+shared_answer (Ok o) = Overlapped.Is (record { volume = o.volume; arealess = o.arealess; arealess2 = o.arealess2 })
+shared_answer (Err e) = Overlapped.Refused 6
 
 -- a clipping of which this is left: it is shown in the work list where it ended, and every other number of both lists is +0
 abbrev pub clipping_of : ℕ → Outcome → List Float → List Float → Clipping

@@ -4,38 +4,40 @@ ghost use Rattle.std.specs.Prelude.{◌≡◌};
 ghost use Rattle.geometry.specs.Clipping.{clipped_answer, number_of, clip_face_answer, clip_convex_answer, overlap_area_answer};
 ghost use Rattle.geometry.specs.Clipping.{shared_answer, overlap_answer};
 
+use work_lists::{NoRoom, Outline};
+
 // What is left as an entry answers it: the number of 'no room' is 6 (SCOPE 3).
-fn clipped(left: work_lists::Left) -> crate::Clipped
+fn clipped(left: Result<Option<Outline>, NoRoom>) -> crate::Clipped
     ensures { result ≡ clipped_answer left }
 {
     match left {
-        work_lists::Left::Nothing => crate::Clipped::Nothing,
-        work_lists::Left::Outline(n, in_second) => crate::Clipped::Outline(n, in_second),
-        work_lists::Left::NoRoom => crate::Clipped::Refused(6),
+        Ok(None) => crate::Clipped::Nothing,
+        Ok(Some(outline)) => crate::Clipped::Outline(outline.points, outline.in_second),
+        Err(NoRoom) => crate::Clipped::Refused(6),
     }
 }
 
 // A sum over what is left, likewise.
-fn number(sum: work_lists::Sum) -> crate::Number
+fn number(sum: Result<f64, NoRoom>) -> crate::Number
     ensures { result ≡ number_of sum }
 {
     match sum {
-        work_lists::Sum::Is(x) => crate::Number::Is(x),
-        work_lists::Sum::NoRoom => crate::Number::Refused(6),
+        Ok(x) => crate::Number::Is(x),
+        Err(NoRoom) => crate::Number::Refused(6),
     }
 }
 
 // The overlap of two cells, likewise.
-fn shared(o: overlap::SharedSum) -> crate::Overlapped
+fn shared(o: Result<overlap::Shared, NoRoom>) -> crate::Overlapped
     ensures { result ≡ shared_answer o }
 {
     match o {
-        overlap::SharedSum::Is(x) => crate::Overlapped::Is(crate::Shared {
+        Ok(x) => crate::Overlapped::Is(crate::Shared {
             volume: x.volume,
             arealess: x.arealess,
             arealess2: x.arealess2,
         }),
-        overlap::SharedSum::NoRoom => crate::Overlapped::Refused(6),
+        Err(NoRoom) => crate::Overlapped::Refused(6),
     }
 }
 

@@ -3,13 +3,14 @@
 use Prim.Native.Nat.{ℕ}
 use mathlib.Core.Bool.{cond}
 use mathlib.Core.List.{List, ◌++◌, map}
+use Rattle.std.specs.Prelude.{Float, Result, Ok}
 use Rattle.places.specs.Loops.{any_of}
 use Rattle.floats.specs.F64.{zero64}
 use Rattle.flat.specs.Points.{Point, corners_of, bounds_of}
 use Rattle.planes.specs.declared.Plane.{Plane}
 use Rattle.planes.specs.Planes.{newell_plane}
 use Rattle.work_lists.specs.WorkLists.{Outcome, nothing}
-use Rattle.work_lists.specs.declared.Sum.{Sum}
+use Rattle.work_lists.specs.declared.NoRoom.{NoRoom}
 use Rattle.clip.specs.Clip.{clip_face_of}
 use Rattle.overlap.specs.declared.Measures.{Measures}
 use Rattle.overlap.specs.Tolerances.{boxes_miss, measures_of}
@@ -34,7 +35,7 @@ former_second room m planes ps =
     cond (any_of (second_skip plane m.coplanar) planes) nothing left
 
 -- the volume, before the boxes are asked
-unfoldable pub former_overlap : ℕ → List Point → List (List ℕ) → List Point → List (List ℕ) → Sum
+unfoldable pub former_overlap : ℕ → List Point → List (List ℕ) → List Point → List (List ℕ) → Result Float NoRoom
 former_overlap room vs faces ws other_faces =
     let m = measures_of vs ws in
     let of_first = map (λ face. former_first room m (former_planes ws other_faces) (corners_of vs face)) faces in
@@ -42,7 +43,7 @@ former_overlap room vs faces ws other_faces =
     magnitude_of_sum (added_to m.reference zero64 (of_first ++ of_second))
 
 -- the volume: 0 where the boxes missed each other
-unfoldable pub former_intersection : ℕ → List Point → List (List ℕ) → List Point → List (List ℕ) → Sum
+unfoldable pub former_intersection : ℕ → List Point → List (List ℕ) → List Point → List (List ℕ) → Result Float NoRoom
 former_intersection room vs faces ws other_faces =
     let overlap = former_overlap room vs faces ws other_faces in
-    cond (boxes_miss (bounds_of 3 vs) (bounds_of 3 ws)) (Sum.Is zero64) overlap
+    cond (boxes_miss (bounds_of 3 vs) (bounds_of 3 ws)) (Ok zero64) overlap

@@ -10,6 +10,7 @@ use lib.ListN.{length, take, drop, replicate, length-take, length-drop, length-a
 use lib.Seq.{take_all, take_at, drop_at}
 use borrow.Rule.Slice.PartMut.{put_mid}
 use lib.Ieee.{Float}
+use Rattle.std.specs.Prelude.{Result, Ok, Err}
 use Rattle.places.specs.Limits.{most_coordinates}
 use Rattle.places.proofs.Stored.{length_threes}
 use Rattle.cell.specs.Faces.{faces_of}
@@ -20,7 +21,7 @@ use Rattle.flat.specs.Points.{Point}
 use Rattle.planes.specs.declared.Plane.{Plane}
 use Rattle.planes.specs.Planes.{planes_of, no_area_count, in_fours}
 use Rattle.planes.proofs.Faces.{planes_count}
-use Rattle.work_lists.specs.declared.Sum.{Sum}
+use Rattle.work_lists.specs.declared.NoRoom.{NoRoom}
 use Rattle.overlap.specs.declared.Measures.{Measures}
 use Rattle.overlap.specs.Tolerances.{measures_of}
 use Rattle.overlap.specs.Steps.{Joint, Stocked, room_of, other_part}
@@ -68,18 +69,18 @@ module _ {n k : ℕ} {firsts seconds : List Plane} {both : List Float} (j : Join
 
 -- ---- the sums: m measures the two cells, the list `both` has their planes, and s is the sum over the first cell's faces
 module _ (first second : List Float) (vs : List Point) (faces : List (List ℕ)) (ws : List Point) (other_faces : List (List ℕ))
-    {both : List Float} {n k : ℕ} {m : Measures} {s : Sum}
+    {both : List Float} {n k : ℕ} {m : Measures} {s : Result Float NoRoom}
     (q : m ≡ measures_of vs ws) (j : Joint n k (planes_of vs faces) (planes_of ws other_faces) both)
     (sum : s ≡ added_to m.reference zero64 (first_patches (room_of first second) m vs faces (in_fours (other_part false n both)))) where
   -- where there is no room for one of these faces
-  pub overlap_refused : s ≡ Sum.NoRoom → Sum.NoRoom ≡ overlap_of (room_of first second) vs faces ws other_faces
+  pub overlap_refused : {e f : NoRoom} → s ≡ Err e → Err f ≡ overlap_of (room_of first second) vs faces ws other_faces
   unfolding overlap_of
   overlap_refused g =
       let of_first = first_patches (room_of first second) m vs faces (in_fours (other_part false n both)) in
       rw (← q, ← others_first j, added_append m.reference zero64 of_first, ← sum, g)
 
   -- where it is v, t the sum that goes on from v over the second cell's faces, in lists of the same lengths, and r its magnitude
-  pub overlap_is : (first' second' : List Float) {v : Float} {t r : Sum} → s ≡ Sum.Is v
+  pub overlap_is : (first' second' : List Float) {v : Float} {t r : Result Float NoRoom} → s ≡ Ok v
       → length first' ≡ length first → length second' ≡ length second
       → t ≡ added_to m.reference v (second_patches (room_of first' second') m ws other_faces (in_fours (other_part true k both)))
       → r ≡ magnitude_of_sum t → r ≡ overlap_of (room_of first second) vs faces ws other_faces

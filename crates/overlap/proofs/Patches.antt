@@ -8,6 +8,7 @@ use Prim.Native.Nat.{ℕ, ◌*◌, ◌-◌, ◌<◌}
 use native.Mathlib.Omega.{arith}
 use lib.ListN.{length, take}
 use lib.Ieee.{Float}
+use Rattle.std.specs.Prelude.{Option, None, Result, Ok}
 use Rattle.places.specs.Loops.{any_of}
 use Rattle.places.proofs.Stored.{length_threes}
 use Rattle.flat.specs.Points.{Point}
@@ -17,8 +18,8 @@ use Rattle.planes.specs.Planes.{PlaneOrNoArea, no_area, has_plane, in_fours, pla
 use Rattle.planes.specs.Steps.{handed}
 use Rattle.planes.proofs.Faces.{handed_plane, handed_no_area}
 use Rattle.planes.proofs.Stored.{take_fours}
-use Rattle.work_lists.specs.declared.Left.{Left}
-use Rattle.work_lists.specs.declared.Left.TheVariants.{Nothing}
+use Rattle.work_lists.specs.declared.NoRoom.{NoRoom}
+use Rattle.work_lists.specs.declared.Outline.{Outline}
 use Rattle.work_lists.specs.WorkLists.{nothing}
 use Rattle.work_lists.specs.Steps.{Ended}
 use Rattle.clip.specs.Clip.{clip_face_of}
@@ -63,17 +64,17 @@ patch_points second room m planes ps (has_plane own) h =
 -- ---- a face with a plane, by whether it was found to be skipped
 module _ {a b : List Point} {skipped : Bool} (other : Bool) (room : ℕ) (m : Measures) (planes : List Plane) (ps : List Point) (own : Plane)
     (asked : skipped ≡ any_of (skip_of other own m.coplanar) planes) where
-  pub patch_skipped : skipped ≡ true → Ended (patch_of other room m planes ps (has_plane own)) Nothing a b
+  pub patch_skipped : skipped ≡ true → Ended (patch_of other room m planes ps (has_plane own)) (Ok None) a b
   patch_skipped e = rw (patch_is other room m planes ps own, ← asked, e) (record { answer = refl; stands = refl })
 
-  pub patch_clipped : {r : Left} → skipped ≡ false
+  pub patch_clipped : {r : Result (Option Outline) NoRoom} → skipped ≡ false
       → Ended (clip_face_of room m.eps (clippers other own m.coplanar planes) ps) r a b
       → Ended (patch_of other room m planes ps (has_plane own)) r a b
   patch_clipped e q = rw (patch_is other room m planes ps own, ← asked, e) q
 
 -- ---- a face as its plane or no area is handed on
-module _ {a b : List Point} {own : PlaneOrNone} {r : Left} (other : Bool) (room : ℕ) (m : Measures) (planes : List Plane) (ps : List Point)
-    (is : own ≡ handed (plane_of ps)) where
+module _ {a b : List Point} {own : PlaneOrNone} {r : Result (Option Outline) NoRoom} (other : Bool) (room : ℕ) (m : Measures)
+    (planes : List Plane) (ps : List Point) (is : own ≡ handed (plane_of ps)) where
   pub patch_without_plane : own.area ≡ false → Ended (clip_face_of room m.eps planes ps) r a b
       → Ended (patch_of other room m planes ps (plane_of ps)) r a b
   patch_without_plane e q = rw (handed_no_area (plane_of ps) is e, patch_no_area other room m planes ps) q

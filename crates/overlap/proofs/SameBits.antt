@@ -8,6 +8,7 @@ use Prim.Native.Nat.{ℕ}
 use lib.Dec.{T}
 use lib.Ieee.{Float, binary64, fits}
 use lib.Ieee.Fits.{div-fits}
+use Rattle.std.specs.Prelude.{Result, Ok}
 use Rattle.places.specs.Loops.{any_of}
 use Rattle.floats.specs.F64.{◌+f◌, zero64}
 use Rattle.floats.proofs.PlusZero.{NotMinusZero, zero_not_minus, plus_zero, sum_again}
@@ -15,7 +16,7 @@ use Rattle.flat.specs.Points.{Point, corners_of, bounds_of}
 use Rattle.planes.specs.declared.Plane.{Plane}
 use Rattle.planes.specs.Planes.{no_area, has_plane, newell_plane, has_no_area, plane_of}
 use Rattle.planes.proofs.NoArea.{nan_plane, no_area_nan, nan_same_side, same_side_nan, nan_opposite, opposite_nan}
-use Rattle.work_lists.specs.declared.Sum.{Sum}
+use Rattle.work_lists.specs.declared.NoRoom.{NoRoom}
 use Rattle.work_lists.specs.WorkLists.{Outcome, nothing, no_room, outline}
 use Rattle.clip.specs.Clip.{clip_face_of}
 use Rattle.overlap.specs.declared.Measures.{Measures}
@@ -109,5 +110,5 @@ same_bits room vs faces ws other_faces =
     let m = measures_of vs ws in
     let first = each_face _ _ (λ face. same_first room m (planes_sparse ws other_faces) (corners_of vs face)) faces in
     let second = each_face _ _ (λ face. same_second room m (planes_sparse vs faces) (corners_of ws face)) other_faces in
-    ap (λ (s : Sum). cond (boxes_miss (bounds_of 3 vs) (bounds_of 3 ws)) (Sum.Is zero64) (magnitude_of_sum s))
+    ap (λ (s : Result Float NoRoom). cond (boxes_miss (bounds_of 3 vs) (bounds_of 3 ws)) (Ok zero64) (magnitude_of_sum s))
     (sym (same_added m.reference zero64 (each_append first second) zero_not_minus))

@@ -9,6 +9,7 @@ use lib.Dec.{T}
 use lib.ListN.{length, get_or, take, drop, length-take, length-drop}
 use lib.Seq.{slice}
 use lib.Ieee.{Float}
+use Rattle.std.specs.Prelude.{Some, None, Result, Ok, Err}
 use Rattle.places.proofs.Lists.{each_slice}
 use Rattle.places.proofs.Stored.{threes_take}
 use Rattle.floats.specs.F64.{◌+f◌}
@@ -17,8 +18,8 @@ use Rattle.cell.specs.Faces.{faces_from, faces_of, rises}
 use Rattle.cell.specs.Steps.{Sound}
 use Rattle.cell.proofs.Faces.{Step, faces_more, faces_none, rises_more}
 use Rattle.planes.specs.declared.Plane.{Plane}
-use Rattle.work_lists.specs.declared.Left.TheVariants.{Nothing, Outline, NoRoom}
-use Rattle.work_lists.specs.declared.Sum.{Sum}
+use Rattle.work_lists.specs.declared.NoRoom.{NoRoom}
+use Rattle.work_lists.specs.declared.Outline.{Outline}
 use Rattle.work_lists.specs.WorkLists.{Outcome, nothing, no_room, outline}
 use Rattle.work_lists.specs.Steps.{Ended}
 use Rattle.work_lists.proofs.Endings.{room_lacks}
@@ -65,26 +66,26 @@ ready_at {c = c} p e sound f few s t =
     })
 
 -- ---- one face taken into the sum v, as its answer says
-pub took_nothing : {o : Outcome} {a b : List Point} (ref : Point) (v : Float) → Ended o Nothing a b → Sum.Is v ≡ added_to ref v (o ∷ [])
+pub took_nothing : {o : Outcome} {a b : List Point} (ref : Point) (v : Float) → Ended o (Ok None) a b → Ok v ≡ added_to ref v (o ∷ [])
 unfolding added_to
 took_nothing {o = nothing} ref v q = refl
 took_nothing {o = no_room} ref v q = cc q.answer
 took_nothing {o = outline s []} ref v q = refl
 took_nothing {o = outline s (p ∷ ps)} ref v q = cc q.answer
 
-took_outline : {o : Outcome} {n : ℕ} {s : Bool} {a b : List Point} (ref : Point) (v : Float) → Ended o (Outline n s) a b
-    → Sum.Is (v +f contribution_of ref (take n (cond s b a))) ≡ added_to ref v (o ∷ [])
+took_outline : {o : Outcome} {left : Outline} {a b : List Point} (ref : Point) (v : Float) → Ended o (Ok (Some left)) a b
+    → Ok (v +f contribution_of ref (take left.points (cond left.in_second b a))) ≡ added_to ref v (o ∷ [])
 unfolding added_to
 took_outline {o = nothing} ref v q = cc q.answer
 took_outline {o = no_room} ref v q = cc q.answer
 took_outline {o = outline t []} ref v q = cc q.answer
-took_outline {o = outline t (p ∷ ps)} {n} {s} ref v q =
-    let size : n ≡ length (p ∷ ps) = cc q.answer in
-    let side : s ≡ t = cc q.answer in
+took_outline {o = outline t (p ∷ ps)} {left} ref v q =
+    let size : left.points ≡ length (p ∷ ps) = cc q.answer in
+    let side : left.in_second ≡ t = cc q.answer in
     rw (size, side, q.stands)
 
 -- the same for a face that is taken in with a sum, measures, room and numbers that are those of the loop
-pub face_taken : {r : Sum} {other other' : Bool} {m m' : Measures} {v v' : Float} {room room' : ℕ} {face face' : List ℕ}
+pub face_taken : {r : Result Float NoRoom} {other other' : Bool} {m m' : Measures} {v v' : Float} {room room' : ℕ} {face face' : List ℕ}
     (vs : List Point) (planes : List Plane) → other' ≡ other → m' ≡ m → v' ≡ v → room' ≡ room → face' ≡ face
     → r ≡ added_to m'.reference v' (face_patch other' room' m' vs planes face' ∷ [])
     → r ≡ added_to m.reference v (face_patch other room m vs planes face ∷ [])
@@ -96,20 +97,21 @@ shown_points : (n : ℕ) (s : Bool) (a b : List Float)
 shown_points n true a b = threes_take n b
 shown_points n false a b = threes_take n a
 
-pub took_shown : {o : Outcome} {n : ℕ} {s : Bool} {shown : List Float} {w : Float} (ref : Point) (v : Float) (a b : List Float)
-    → Ended o (Outline n s) (vertices_of a) (vertices_of b) → shown ≡ take (n * 3) (cond s b a)
+pub took_shown : {o : Outcome} {left : Outline} {shown : List Float} {w : Float} (ref : Point) (v : Float) (a b : List Float)
+    → Ended o (Ok (Some left)) (vertices_of a) (vertices_of b) → shown ≡ take (left.points * 3) (cond left.in_second b a)
     → w ≡ contribution_of ref (vertices_of shown)
-    → Sum.Is (v +f w) ≡ added_to ref v (o ∷ [])
-took_shown {n = n} {s = s} ref v a b q f g = rw (g, f, shown_points n s a b) (took_outline ref v q)
+    → Ok (v +f w) ≡ added_to ref v (o ∷ [])
+took_shown {left} ref v a b q f g = rw (g, f, shown_points left.points left.in_second a b) (took_outline ref v q)
 
-pub took_refusal : {o : Outcome} {a b : List Point} (ref : Point) (v : Float) → Ended o NoRoom a b → Sum.NoRoom ≡ added_to ref v (o ∷ [])
+pub took_refusal : {o : Outcome} {e f : NoRoom} {a b : List Point} (ref : Point) (v : Float) → Ended o (Err e) a b
+    → Err f ≡ added_to ref v (o ∷ [])
 unfolding added_to
 took_refusal ref v q = rw (room_lacks q)
 
 -- ---- outcomes taken in one after the other: the sum goes on from where the first ones came to
-abbrev pub onward : Sum → (Float → Sum) → Sum
-onward (Sum.Is v) next = next v
-onward Sum.NoRoom next = Sum.NoRoom
+abbrev pub onward : Result Float NoRoom → (Float → Result Float NoRoom) → Result Float NoRoom
+onward (Ok v) next = next v
+onward (Err e) next = Err e
 
 pub added_append : (ref : Point) (v : Float) (xs ys : List Outcome)
     → added_to ref v (xs ++ ys) ≡ onward (added_to ref v xs) (λ w. added_to ref w ys)
@@ -125,7 +127,7 @@ abbrev pub outcomes : (List ℕ → Outcome) → List ℕ → List ℕ → ℕ �
 outcomes f c es p k = map f (faces_from p c (drop k es))
 
 -- ---- the loop: from face k, the previous end p and the sum v on it comes to `whole`
-pub record Adding (ref : Point) (f : List ℕ → Outcome) (c es : List ℕ) (whole : Sum) (p k : ℕ) (v : Float) : Type 0 where
+pub record Adding (ref : Point) (f : List ℕ → Outcome) (c es : List ℕ) (whole : Result Float NoRoom) (p k : ℕ) (v : Float) : Type 0 where
   pub within : k ≤ length es
   pub ordered : T (rises p (drop k es) (length c))
   pub so : added_to ref v (outcomes f c es p k) ≡ whole
@@ -135,24 +137,24 @@ pub add_start : {ref : Point} {f : List ℕ → Outcome} {c es : List ℕ} {v : 
 unfolding faces_of
 add_start t = record { within = zero-le; ordered = t; so = refl }
 
-module _ {ref : Point} {f : List ℕ → Outcome} {c es : List ℕ} {whole : Sum} {p k e : ℕ} {v : Float}
-    (l : Adding ref f c es whole p k v) (h : k < length es) (q : e ≡ get_or es k 0) where
+module _ {ref : Point} {f : List ℕ → Outcome} {c es : List ℕ} {whole : Result Float NoRoom} {p k e : ℕ}
+    {v : Float} (l : Adding ref f c es whole p k v) (h : k < length es) (q : e ≡ get_or es k 0) where
   pub add_step : Step p es (length c) k e
   add_step = rises_more p es (length c) k e h q l.ordered
 
   -- the face k is taken in, and r is where the sum came to
-  goes_on : {r : Sum} → r ≡ added_to ref v (f (slice p e c) ∷ []) → onward r (λ w. added_to ref w (outcomes f c es e (k + 1))) ≡ whole
+  goes_on : {r : Result Float NoRoom} → r ≡ added_to ref v (f (slice p e c) ∷ []) → onward r (λ w. added_to ref w (outcomes f c es e (k + 1))) ≡ whole
   goes_on g =
       let next : added_to ref v (f (slice p e c) ∷ outcomes f c es e (k + 1)) ≡ whole = rw q (sym (rw (faces_more p c es k h)) ∙ l.so) in
       rw g (sym (added_append ref v (f (slice p e c) ∷ []) (outcomes f c es e (k + 1))) ∙ next)
 
-  pub add_more : {r : Sum} {w : Float} → r ≡ added_to ref v (f (slice p e c) ∷ []) → r ≡ Sum.Is w → Adding ref f c es whole e (k + 1) w
-  add_more g is = record { within = omega arith; ordered = add_step.rest; so = rw is at (goes_on g) }
+  pub add_more : {w : Float} → Ok w ≡ added_to ref v (f (slice p e c) ∷ []) → Adding ref f c es whole e (k + 1) w
+  add_more g = record { within = omega arith; ordered = add_step.rest; so = goes_on g }
 
-  pub add_refused : {r : Sum} → r ≡ added_to ref v (f (slice p e c) ∷ []) → r ≡ Sum.NoRoom → Sum.NoRoom ≡ whole
-  add_refused g is = rw is at (goes_on g)
+  pub add_refused : {no also : NoRoom} → Err no ≡ added_to ref v (f (slice p e c) ∷ []) → Err also ≡ whole
+  add_refused g = goes_on g
 
-pub add_end : {ref : Point} {f : List ℕ → Outcome} {c es : List ℕ} {whole : Sum} {p k : ℕ} {v : Float}
-    → Adding ref f c es whole p k v → length es ≤ k → Sum.Is v ≡ whole
+pub add_end : {ref : Point} {f : List ℕ → Outcome} {c es : List ℕ} {whole : Result Float NoRoom} {p k : ℕ} {v : Float}
+    → Adding ref f c es whole p k v → length es ≤ k → Ok v ≡ whole
 unfolding added_to
 add_end {c = c} {es = es} {p = p} {k = k} l h = sym (rw (faces_none p c es k h)) ∙ l.so

@@ -1,5 +1,5 @@
 -- convex_intersection_volume: each cell's faces clipped by the planes of the other, and the contributions of what is left.
-use Rattle.std.specs.Prelude.{ℕ, Bool, ◌||◌, cond, List, [], ◌∷◌, ◌++◌, map, Float}
+use Rattle.std.specs.Prelude.{ℕ, Bool, ◌||◌, cond, List, [], ◌∷◌, ◌++◌, map, Float, Result, Ok, Err}
 use Rattle.places.specs.Loops.{any_of}
 use Rattle.places.specs.Ring.{fold_pairs}
 use Rattle.floats.specs.F64.{◌+f◌, ◌/f◌, zero64, six64}
@@ -10,9 +10,9 @@ use Rattle.planes.specs.declared.Plane.{Plane}
 use Rattle.planes.specs.Planes.{PlaneOrNoArea, no_area, has_plane, plane_of, planes_of, no_area_count, same_side, coplanar_opposite}
 use Rattle.work_lists.specs.WorkLists.{Outcome, nothing, no_room, outline}
 use Rattle.clip.specs.Clip.{clip_face_of}
-use Rattle.work_lists.specs.declared.Sum.{Sum}
+use Rattle.work_lists.specs.declared.NoRoom.{NoRoom}
 use Rattle.overlap.specs.declared.Measures.{Measures}
-use Rattle.overlap.specs.declared.SharedSum.{SharedSum}
+use Rattle.overlap.specs.declared.Shared.{Shared}
 use Rattle.overlap.specs.Tolerances.{boxes_miss, measures_of}
 
 -- ---- polygon_volume_contribution
@@ -80,20 +80,20 @@ second_patches room m ws faces planes = map (of_face (second_patch room m planes
 -- the contributions added in order to the sum v; where a face had no room there is no sum.
 -- An outline of 0 points reads as nothing left, as SCOPE 11 has it; none occurs here, for no face has 0 corners (refusal 5),
 -- and a plane that cuts leaves at least 3 points (`patch_points` of proofs/Patches.antt)
-unfoldable pub added_to : Point → Float → List Outcome → Sum
-added_to ref v [] = Sum.Is v
+unfoldable pub added_to : Point → Float → List Outcome → Result Float NoRoom
+added_to ref v [] = Ok v
 added_to ref v (nothing ∷ os) = added_to ref v os
-added_to ref v (no_room ∷ os) = Sum.NoRoom
+added_to ref v (no_room ∷ os) = Err (record {})
 added_to ref v (outline second [] ∷ os) = added_to ref v os
 added_to ref v (outline second (p ∷ ps) ∷ os) = added_to ref (v +f contribution_of ref (p ∷ ps)) os
 
 -- the magnitude of a sum
-abbrev pub magnitude_of_sum : Sum → Sum
-magnitude_of_sum (Sum.Is v) = Sum.Is (magnitude_of v)
-magnitude_of_sum Sum.NoRoom = Sum.NoRoom
+abbrev pub magnitude_of_sum : Result Float NoRoom → Result Float NoRoom
+magnitude_of_sum (Ok v) = Ok (magnitude_of v)
+magnitude_of_sum (Err e) = Err e
 
 -- convex_intersection_volume_impl: the faces of the first cell before those of the second
-unfoldable pub overlap_of : ℕ → List Point → List (List ℕ) → List Point → List (List ℕ) → Sum
+unfoldable pub overlap_of : ℕ → List Point → List (List ℕ) → List Point → List (List ℕ) → Result Float NoRoom
 overlap_of room vs faces ws other_faces =
     let m = measures_of vs ws in
     let of_first = first_patches room m vs faces (planes_of ws other_faces) in
@@ -101,18 +101,18 @@ overlap_of room vs faces ws other_faces =
     magnitude_of_sum (added_to m.reference zero64 (of_first ++ of_second))
 
 -- the volume that two cells share: 0 where the boxes miss each other
-unfoldable pub intersection_of : ℕ → List Point → List (List ℕ) → List Point → List (List ℕ) → Sum
+unfoldable pub intersection_of : ℕ → List Point → List (List ℕ) → List Point → List (List ℕ) → Result Float NoRoom
 intersection_of room vs faces ws other_faces =
     let overlap = overlap_of room vs faces ws other_faces in
-    cond (boxes_miss (bounds_of 3 vs) (bounds_of 3 ws)) (Sum.Is zero64) overlap
+    cond (boxes_miss (bounds_of 3 vs) (bounds_of 3 ws)) (Ok zero64) overlap
 
 -- ---- and the faces of no area
 -- a sum with how many faces of the first cell and of the second have no area; where there is no room there is nothing else
-abbrev pub counted : Sum → ℕ → ℕ → SharedSum
-counted (Sum.Is v) n k = SharedSum.Is (record { volume = v; arealess = n; arealess2 = k })
-counted Sum.NoRoom n k = SharedSum.NoRoom
+abbrev pub counted : Result Float NoRoom → ℕ → ℕ → Result Shared NoRoom
+counted (Ok v) n k = Ok (record { volume = v; arealess = n; arealess2 = k })
+counted (Err e) n k = Err e
 
 -- convex_intersection_volume: the volume, and how many faces of each cell have no area, counted over all faces even where the boxes miss
-unfoldable pub overlapped_of : ℕ → List Point → List (List ℕ) → List Point → List (List ℕ) → SharedSum
+unfoldable pub overlapped_of : ℕ → List Point → List (List ℕ) → List Point → List (List ℕ) → Result Shared NoRoom
 overlapped_of room vs faces ws other_faces =
     counted (intersection_of room vs faces ws other_faces) (no_area_count vs faces) (no_area_count ws other_faces)

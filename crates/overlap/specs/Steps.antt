@@ -1,5 +1,5 @@
 -- What functions below the gatehouse ask of and promise each other; no contract of a public entry speaks of these.
-use Rattle.std.specs.Prelude.{ℕ, ◌+◌, ◌-◌, ◌≤◌, List, ◌∷◌, Float, ◌≡◌, Bool, true, false, length, take, drop}
+use Rattle.std.specs.Prelude.{ℕ, ◌+◌, ◌-◌, ◌≤◌, List, ◌∷◌, Float, ◌≡◌, Bool, true, false, length, take, drop, Result}
 use Rattle.places.specs.Limits.{most_corners, most_work_numbers}
 use Rattle.floats.specs.Pick.{largest_of}
 use Rattle.flat.specs.Points.{Point, vertices_of}
@@ -10,9 +10,9 @@ use Rattle.cell.specs.Steps.{Sound}
 use Rattle.planes.specs.declared.Plane.{Plane}
 use Rattle.planes.specs.Planes.{PlaneOrNoArea, planes_of, no_area_count, in_fours}
 use Rattle.work_lists.specs.WorkLists.{Outcome, shorter_of}
-use Rattle.work_lists.specs.declared.Sum.{Sum}
+use Rattle.work_lists.specs.declared.NoRoom.{NoRoom}
 use Rattle.overlap.specs.declared.Measures.{Measures}
-use Rattle.overlap.specs.declared.SharedSum.{SharedSum}
+use Rattle.overlap.specs.declared.Shared.{Shared}
 use Rattle.overlap.specs.Overlap.{first_skip, second_skip, first_patch, second_patch, of_face, first_patches, second_patches, counted}
 
 -- the larger of m and the sum of the squares of what p and c differ by
@@ -58,8 +58,8 @@ abbrev pub room_of : List Float → List Float → ℕ
 room_of first second = shorter_of (length (vertices_of first)) (length (vertices_of second))
 
 -- ---- a volume by two cells' points and faces, with how many faces of each have no area
-abbrev pub both_counted : (List Point → List (List ℕ) → List Point → List (List ℕ) → Sum)
-    → List Point → List (List ℕ) → List Point → List (List ℕ) → SharedSum
+abbrev pub both_counted : (List Point → List (List ℕ) → List Point → List (List ℕ) → Result Float NoRoom)
+    → List Point → List (List ℕ) → List Point → List (List ℕ) → Result Shared NoRoom
 both_counted volume vs faces ws other_faces =
     counted (volume vs faces ws other_faces) (no_area_count vs faces) (no_area_count ws other_faces)
 

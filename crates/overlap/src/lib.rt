@@ -2,7 +2,7 @@
 #![tactic(auto)]
 
 use planes::{Plane, PlaneOrNone};
-use work_lists::{Left, Sum};
+use work_lists::{NoRoom, Outline};
 
 pub mod tolerances;
 
@@ -37,13 +37,6 @@ pub struct Shared {
     pub volume: f64,
     pub arealess: usize,
     pub arealess2: usize,
-}
-
-// The same, or that a work list has no room.
-#[derive(Clone, Copy)]
-pub enum SharedSum {
-    Is(Shared),
-    NoRoom,
 }
 
 // How many planes the faces of the first cell have, and those of the second.
@@ -87,12 +80,10 @@ fn contribution(s: &[f64], reference: [f64; 3]) -> f64
     let p = flat::minus3(flat::space::vertex(s, 0), reference);
     let mut a = flat::minus3(flat::space::vertex(s, 1), reference);
     let mut v = 0.0;
-    let mut i = 2;
-    while i < n {
+    for i in 2..n {
         let b = flat::minus3(flat::space::vertex(s, i), reference);
         v = v + volume::triple_product(p, a, b);
         a = b;
-        i += 1;
     }
     v / 6.0
 }
@@ -115,12 +106,10 @@ fn any_coplanar_skip(other: bool, plane: Plane, planes: &[f64], tol: f64) -> boo
     ensures { result ≡ any_of (skip_of other plane tol) (in_fours planes.now) }
 {
     let n = planes.len() / 4;
-    let mut i = 0;
-    while i < n {
+    for i in 0..n {
         if coplanar_skip(other, plane, planes::plane_at(planes, i), tol) {
             return true;
         }
-        i += 1;
     }
     false
 }
@@ -134,10 +123,8 @@ fn other_planes(plane: Plane, planes: &[f64], tol: f64, kept: &mut [f64]) -> usi
 {
     let n = planes.len() / 4;
     let mut m = 0;
-    let mut i = 0;
-    while i < n {
+    for i in 0..n {
         let p = planes::plane_at(planes, i);
-        i += 1;
         if !planes::plane_same_side(plane, p, tol) {
             planes::put_plane(kept, m, p);
             m += 1;
@@ -156,14 +143,14 @@ fn first_patch(
     m: Measures,
     first: &mut [f64],
     second: &mut [f64],
-) -> Left
+) -> Result<Option<Outline>, NoRoom>
     requires ready { Ready (vertices_of coords.now) face.now planes.now first.old second.old }
     requires planes_in_bounds { length planes.now ≤ length kept.old }
     ensures { Ended (first_patch (room_of first.old second.old) m (in_fours planes.now)
         (corners_of (vertices_of coords.now) face.now) (has_plane plane)) result (vertices_of first.new) (vertices_of second.new) }
 {
     if any_coplanar_skip(false, plane, planes, m.coplanar) {
-        return Left::Nothing;
+        return Ok(None);
     }
     let n = other_planes(plane, planes, m.coplanar, kept);
     clip::clip_face(coords, face, &kept[0..n * 4], m.eps, first, second)
@@ -178,13 +165,13 @@ fn second_patch(
     m: Measures,
     first: &mut [f64],
     second: &mut [f64],
-) -> Left
+) -> Result<Option<Outline>, NoRoom>
     requires { Ready (vertices_of coords.now) face.now planes.now first.old second.old }
     ensures { Ended (second_patch (room_of first.old second.old) m (in_fours planes.now)
         (corners_of (vertices_of coords.now) face.now) (has_plane plane)) result (vertices_of first.new) (vertices_of second.new) }
 {
     if any_coplanar_skip(true, plane, planes, m.coplanar) {
-        return Left::Nothing;
+        return Ok(None);
     }
     clip::clip_face(coords, face, planes, m.eps, first, second)
 }
@@ -199,7 +186,7 @@ fn patch(
     kept: &mut [f64],
     first: &mut [f64],
     second: &mut [f64],
-) -> Left
+) -> Result<Option<Outline>, NoRoom>
     requires ready { Ready (vertices_of coords.now) face.now planes.now first.old second.old }
     requires found_value { found ≡ handed (plane_of (corners_of (vertices_of coords.now) face.now)) }
     requires planes_in_bounds { length planes.now ≤ length kept.old }
@@ -228,7 +215,7 @@ fn add_face(
     kept: &mut [f64],
     first: &mut [f64],
     second: &mut [f64],
-) -> Sum
+) -> Result<f64, NoRoom>
     requires ready { Ready (vertices_of coords.now) face.now planes.now first.old second.old }
     requires found_value { found ≡ handed (plane_of (corners_of (vertices_of coords.now) face.now)) }
     requires planes_in_bounds { length planes.now ≤ length kept.old }
@@ -238,14 +225,11 @@ fn add_face(
     let sum = t.sum;
     let m = t.m;
     let reference = m.reference;
-    match patch(t, coords, face, found, planes, kept, first, second) {
-        Left::Nothing => Sum::Is(sum),
-        Left::Outline(n, in_second) => {
-            let shown = work_lists::shown(first, second, n * 3, in_second);
-            Sum::Is(sum + contribution(shown, reference))
-        }
-        Left::NoRoom => Sum::NoRoom,
-    }
+    let Some(left) = patch(t, coords, face, found, planes, kept, first, second)? else {
+        return Ok(sum);
+    };
+    let shown = work_lists::shown(first, second, left.points * 3, left.in_second);
+    Ok(sum + contribution(shown, reference))
 }
 
 // The planes of both cells stand in one list, those of the first before those of the second.
@@ -312,7 +296,7 @@ fn add_faces(
     kept: &mut [f64],
     first: &mut [f64],
     second: &mut [f64],
-) -> Sum
+) -> Result<f64, NoRoom>
     requires sound { Sound coords.now corners.now ends.now }
     requires stocked { Stocked t.other (t.count * 4) (planes_of (vertices_of coords.now) (faces_of corners.now ends.now))
         both.now kept.old }
@@ -329,45 +313,15 @@ fn add_faces(
     let mut sum = t.sum;
     let mut j = 0;
     let mut start = 0;
-    let mut k = 0;
-    while k < ends.len() {
-        let end = places::corner(ends, k);
-        let face = cell::face(corners, start, end);
+    for &end in ends {
+        let face = cell::face(corners, start, end as usize);
         let found = own_plane(coords, face, own, j, all);
-        start = end;
-        k += 1;
+        start = end as usize;
         j += places::one_if(found.area);
         let u = so_far(t.other, t.count, m, sum);
-        match add_face(u, coords, face, found, planes, kept, first, second) {
-            Sum::Is(v) => sum = v,
-            Sum::NoRoom => return Sum::NoRoom,
-        }
+        sum = add_face(u, coords, face, found, planes, kept, first, second)?;
     }
-    Sum::Is(sum)
-}
-
-// The magnitude of a sum.
-fn magnitude_of(sum: Sum) -> Sum
-    ensures { result ≡ magnitude_of_sum sum }
-{
-    match sum {
-        Sum::Is(v) => Sum::Is(floats::magnitude(v)),
-        Sum::NoRoom => Sum::NoRoom,
-    }
-}
-
-// A sum with the counts of faces of no area.
-fn counted(sum: Sum, arealess: usize, arealess2: usize) -> SharedSum
-    ensures { result ≡ counted sum arealess arealess2 }
-{
-    match sum {
-        Sum::Is(volume) => SharedSum::Is(Shared {
-            volume,
-            arealess,
-            arealess2,
-        }),
-        Sum::NoRoom => SharedSum::NoRoom,
-    }
+    Ok(sum)
 }
 
 // The planes of both cells laid down at the front of a list, those of the first before those of the second, and how
@@ -405,7 +359,7 @@ fn overlap_16(
     ends2: &[u32],
     first: &mut [f64],
     second: &mut [f64],
-) -> SharedSum
+) -> Result<Shared, NoRoom>
     requires solid { Solid coords.now corners.now ends.now }
     requires solid_2 { Solid coords2.now corners2.now ends2.now }
     requires ends_len_bound { (length ends.now ≤ 16) × (length ends2.now ≤ 16) }
@@ -419,18 +373,14 @@ fn overlap_16(
     let both = &list[0..(c.planes + c.planes2) * 4];
     let m = tolerances::measures(coords, coords2);
     let t = so_far(false, c.planes, m, 0.0);
-    match add_faces(t, coords, corners, ends, both, &mut kept, first, second) {
-        Sum::NoRoom => SharedSum::NoRoom,
-        Sum::Is(sum) => {
-            let u = so_far(true, c.planes2, m, sum);
-            let whole = add_faces(u, coords2, corners2, ends2, both, &mut kept, first, second);
-            counted(
-                magnitude_of(whole),
-                ends.len() - c.planes,
-                ends2.len() - c.planes2,
-            )
-        }
-    }
+    let sum = add_faces(t, coords, corners, ends, both, &mut kept, first, second)?;
+    let u = so_far(true, c.planes2, m, sum);
+    let whole = add_faces(u, coords2, corners2, ends2, both, &mut kept, first, second)?;
+    Ok(Shared {
+        volume: floats::magnitude(whole),
+        arealess: ends.len() - c.planes,
+        arealess2: ends2.len() - c.planes2,
+    })
 }
 
 // The same for cells of any number of faces.
@@ -443,7 +393,7 @@ fn overlap_256(
     ends2: &[u32],
     first: &mut [f64],
     second: &mut [f64],
-) -> SharedSum
+) -> Result<Shared, NoRoom>
     requires solid { Solid coords.now corners.now ends.now }
     requires solid_2 { Solid coords2.now corners2.now ends2.now }
     requires first_len_bound { (length first.old ≤ most_work_numbers) × (length second.old ≤ most_work_numbers) }
@@ -456,18 +406,14 @@ fn overlap_256(
     let both = &list[0..(c.planes + c.planes2) * 4];
     let m = tolerances::measures(coords, coords2);
     let t = so_far(false, c.planes, m, 0.0);
-    match add_faces(t, coords, corners, ends, both, &mut kept, first, second) {
-        Sum::NoRoom => SharedSum::NoRoom,
-        Sum::Is(sum) => {
-            let u = so_far(true, c.planes2, m, sum);
-            let whole = add_faces(u, coords2, corners2, ends2, both, &mut kept, first, second);
-            counted(
-                magnitude_of(whole),
-                ends.len() - c.planes,
-                ends2.len() - c.planes2,
-            )
-        }
-    }
+    let sum = add_faces(t, coords, corners, ends, both, &mut kept, first, second)?;
+    let u = so_far(true, c.planes2, m, sum);
+    let whole = add_faces(u, coords2, corners2, ends2, both, &mut kept, first, second)?;
+    Ok(Shared {
+        volume: floats::magnitude(whole),
+        arealess: ends.len() - c.planes,
+        arealess2: ends2.len() - c.planes2,
+    })
 }
 
 // The larger of two numbers.
@@ -487,7 +433,7 @@ fn overlap(
     ends2: &[u32],
     first: &mut [f64],
     second: &mut [f64],
-) -> SharedSum
+) -> Result<Shared, NoRoom>
     requires solid { Solid coords.now corners.now ends.now }
     requires solid_2 { Solid coords2.now corners2.now ends2.now }
     requires first_len_bound { (length first.old ≤ most_work_numbers) × (length second.old ≤ most_work_numbers) }
@@ -514,7 +460,7 @@ fn intersection(
     ends2: &[u32],
     first: &mut [f64],
     second: &mut [f64],
-) -> SharedSum
+) -> Result<Shared, NoRoom>
     requires solid { Solid coords.now corners.now ends.now }
     requires solid_2 { Solid coords2.now corners2.now ends2.now }
     requires first_len_bound { (length first.old ≤ most_work_numbers) × (length second.old ≤ most_work_numbers) }
@@ -524,7 +470,11 @@ fn intersection(
     if tolerances::boxes_miss(flat::space::bounds(coords), flat::space::bounds(coords2)) {
         let arealess = planes::no_area_count(coords, corners, ends);
         let arealess2 = planes::no_area_count(coords2, corners2, ends2);
-        return counted(Sum::Is(0.0), arealess, arealess2);
+        return Ok(Shared {
+            volume: 0.0,
+            arealess,
+            arealess2,
+        });
     }
     overlap(
         coords, corners, ends, coords2, corners2, ends2, first, second,
@@ -543,7 +493,7 @@ pub fn convex_intersection_volume(
     ends2: &[u32],
     first: &mut [f64],
     second: &mut [f64],
-) -> SharedSum
+) -> Result<Shared, NoRoom>
     requires solid { Solid coords.now corners.now ends.now }
     requires solid_2 { Solid coords2.now corners2.now ends2.now }
     requires first_len_bound { (length first.old ≤ most_work_numbers) × (length second.old ≤ most_work_numbers) }

@@ -44,11 +44,9 @@ fn add_points(coords: &[f64], s: [f64; 3]) -> [f64; 3]
 {
     let n = coords.len() / 3;
     let mut t = s;
-    let mut i = 0;
-    while i < n {
+    for i in 0..n {
         let u = flat::plus3(flat::space::vertex(coords, i), t);
         t = u;
-        i += 1;
     }
     t
 }
@@ -67,11 +65,9 @@ fn farthest(coords: &[f64], c: [f64; 3], m: f64) -> f64
 {
     let n = coords.len() / 3;
     let mut far = m;
-    let mut i = 0;
-    while i < n {
+    for i in 0..n {
         let s = clip_step::doubled::square3(flat::space::vertex(coords, i), c);
         far = floats::largest(far, s);
-        i += 1;
     }
     far
 }

@@ -1,13 +1,12 @@
 -- clip_convex: an outline of the plane clipped by the edges of another; and the area of what is left.
-use Rattle.std.specs.Prelude.{cond, ℕ, List, length, ltb, Float}
+use Rattle.std.specs.Prelude.{cond, ℕ, List, length, ltb, Float, Result, Ok, Err}
 use Rattle.places.specs.Ring.{sides}
 use Rattle.floats.specs.Pick.{magnitude_of}
 use Rattle.flat.specs.Points.{Point}
 use Rattle.flat.specs.Flat.{signed_area_of}
 use Rattle.work_lists.specs.WorkLists.{Change, gone, full, made, Outcome, nothing, no_room, outline, clipped_of, outline_of}
 use Rattle.clip_step.specs.ClipStep.{trimmed_at}
-use Rattle.work_lists.specs.declared.Sum.{Sum}
-use Rattle.work_lists.specs.declared.Sum.TheVariants.{Is, NoRoom}
+use Rattle.work_lists.specs.declared.NoRoom.{NoRoom}
 
 -- what an edge makes of an outline: before each edge one under 3 points is emptied; every edge is a cut
 unfoldable pub edge_change : ℕ → Point × Point → List Point → Change
@@ -24,7 +23,7 @@ unfoldable pub intersection_area_of : Outcome → Float
 intersection_area_of left = magnitude_of (signed_area_of (outline_of left))
 
 -- the area, also of nothing; or that there is no room
-abbrev pub area_answer : Outcome → Sum
-area_answer nothing = Is (intersection_area_of nothing)
-area_answer no_room = NoRoom
-area_answer (outline second ps) = Is (intersection_area_of (outline second ps))
+abbrev pub area_answer : Outcome → Result Float NoRoom
+area_answer nothing = Ok (intersection_area_of nothing)
+area_answer no_room = Err (record {})
+area_answer (outline second ps) = Ok (intersection_area_of (outline second ps))

@@ -10,22 +10,28 @@ ghost use Rattle.work_lists.specs.WorkLists.{outline, run_of, shorter_of};
 ghost use Rattle.work_lists.specs.Steps.{Ended, Settled, Shows, Moved};
 ghost use Rattle.planar.specs.Planar.{edge_change, clip_convex_of, area_answer};
 
-use work_lists::{Left, Step, Sum};
+use work_lists::{NoRoom, Outline, Step};
 
 // What the edge from a to b makes of an outline.
-fn advance(src: &[f64], dst: &mut [f64], room: usize, a: [f64; 2], b: [f64; 2]) -> Step
+fn advance(
+    src: &[f64],
+    dst: &mut [f64],
+    room: usize,
+    a: [f64; 2],
+    b: [f64; 2],
+) -> Result<Step, NoRoom>
     requires src_len_bound { length src.now ≤ most_work_numbers }
     requires room_in_bounds { room ≤ length (in_pairs dst.old) }
     ensures { Shows room (edge_change room (a, b) (in_pairs src.now)) result (in_pairs dst.new) }
 {
     if src.len() / 2 < 3 {
-        return Step::Gone;
+        return Ok(Step::Gone);
     }
     let m = clip_step::edge::trim_at_edge(src, dst, a, b);
     if room < m {
-        return Step::Full;
+        return Err(NoRoom);
     }
-    Step::Made(m)
+    Ok(Step::Made(m))
 }
 
 // The outline of n points stands in the first list, or in the second, and goes to the other.
@@ -37,7 +43,7 @@ fn advance_from(
     room: usize,
     a: [f64; 2],
     b: [f64; 2],
-) -> Step
+) -> Result<Step, NoRoom>
     requires first_len_bound { (length first.old ≤ most_work_numbers) × (length second.old ≤ most_work_numbers) }
     requires n_le_room { (n ≤ room) × (room ≤ length (in_pairs first.old)) × (room ≤ length (in_pairs second.old)) }
     ensures { Moved room (edge_change room) (a, b) n in_second (in_pairs first.old) (in_pairs second.old)
@@ -50,7 +56,13 @@ fn advance_from(
 }
 
 // The edges one after the other, from the outline of n points in the first list on.
-fn run(first: &mut [f64], second: &mut [f64], count: usize, room: usize, clip: &[f64]) -> Left
+fn run(
+    first: &mut [f64],
+    second: &mut [f64],
+    count: usize,
+    room: usize,
+    clip: &[f64],
+) -> Result<Option<Outline>, NoRoom>
     requires first_len_bound { (length first.old ≤ most_work_numbers) × (length second.old ≤ most_work_numbers) }
     requires count_le_room { (count ≤ room) × (room ≤ length (in_pairs first.old)) × (room ≤ length (in_pairs second.old)) }
     ensures { Ended (run_of (edge_change room) (sides (in_pairs clip.now)) (outline false (take count (in_pairs first.old))))
@@ -59,15 +71,12 @@ fn run(first: &mut [f64], second: &mut [f64], count: usize, room: usize, clip: &
     let many = clip.len() / 2;
     let mut n = count;
     let mut in_second = false;
-    let mut i = 0;
-    while i < many {
+    for i in 0..many {
         let a = outline::pair(clip, i);
         let b = outline::pair(clip, places::next(i, many));
-        i += 1;
-        match advance_from(first, second, in_second, n, room, a, b) {
+        match advance_from(first, second, in_second, n, room, a, b)? {
             Step::Kept => {}
-            Step::Gone => return Left::Nothing,
-            Step::Full => return Left::NoRoom,
+            Step::Gone => return Ok(None),
             Step::Made(left) => {
                 n = left;
                 in_second = !in_second;
@@ -75,9 +84,12 @@ fn run(first: &mut [f64], second: &mut [f64], count: usize, room: usize, clip: &
         }
     }
     if n == 0 {
-        return Left::Nothing;
+        return Ok(None);
     }
-    Left::Outline(n, in_second)
+    Ok(Some(Outline {
+        points: n,
+        in_second,
+    }))
 }
 
 // The points of an outline laid down at the front of a list.
@@ -87,17 +99,20 @@ fn gather(src: &[f64], dst: &mut [f64])
     ensures { take (length (in_pairs src.now)) (in_pairs dst.new) ≡ in_pairs src.now }
 {
     let n = src.len() / 2;
-    let mut i = 0;
-    while i < n {
+    for i in 0..n {
         outline::put_pair(dst, i, outline::pair(src, i));
-        i += 1;
     }
 }
 
 // An outline clipped by the edges of another: the answer, with the outline at the front of its list.
 // Both lists keep what else was written.
 // Ruled out: a subject of 2 points emptied when there is no edge; a program that leaves out the edge from the last point to the first.
-fn clip_convex(subject: &[f64], clip: &[f64], first: &mut [f64], second: &mut [f64]) -> Left
+fn clip_convex(
+    subject: &[f64],
+    clip: &[f64],
+    first: &mut [f64],
+    second: &mut [f64],
+) -> Result<Option<Outline>, NoRoom>
     requires subject_len_bound { (length subject.now ≤ 1024) × (length clip.now ≤ 1024) }
     requires first_len_bound { (length first.old ≤ most_work_numbers) × (length second.old ≤ most_work_numbers) }
     ensures { Ended (clip_convex_of (shorter_of (length (in_pairs first.old)) (length (in_pairs second.old)))
@@ -106,7 +121,7 @@ fn clip_convex(subject: &[f64], clip: &[f64], first: &mut [f64], second: &mut [f
     let room = work_lists::shorter(first.len() / 2, second.len() / 2);
     let n = subject.len() / 2;
     if room < n {
-        return Left::NoRoom;
+        return Err(NoRoom);
     }
     gather(subject, first);
     run(first, second, n, room, clip)
@@ -119,7 +134,7 @@ pub fn clip_convex_shown(
     clip: &[f64],
     first: &mut [f64],
     second: &mut [f64],
-) -> Left
+) -> Result<Option<Outline>, NoRoom>
     requires subject_len_bound { (length subject.now ≤ 1024) × (length clip.now ≤ 1024) }
     requires first_len_bound { (length first.old ≤ most_work_numbers) × (length second.old ≤ most_work_numbers) }
     ensures { Settled (clip_convex_of (shorter_of (length (in_pairs first.old)) (length (in_pairs second.old)))
@@ -137,18 +152,15 @@ pub fn convex_intersection_area(
     clip: &[f64],
     first: &mut [f64],
     second: &mut [f64],
-) -> Sum
+) -> Result<f64, NoRoom>
     requires subject_len_bound { (length subject.now ≤ 1024) × (length clip.now ≤ 1024) }
     requires first_len_bound { (length first.old ≤ most_work_numbers) × (length second.old ≤ most_work_numbers) }
     ensures { result ≡ area_answer (clip_convex_of (shorter_of (length (in_pairs first.old)) (length (in_pairs second.old)))
         (in_pairs subject.now) (in_pairs clip.now)) }
 {
-    match clip_convex(subject, clip, first, second) {
-        Left::Nothing => Sum::Is(0.0),
-        Left::Outline(n, in_second) => {
-            let ps = work_lists::shown(first, second, n * 2, in_second);
-            Sum::Is(floats::magnitude(outline::signed_area2(ps)))
-        }
-        Left::NoRoom => Sum::NoRoom,
-    }
+    let Some(left) = clip_convex(subject, clip, first, second)? else {
+        return Ok(0.0);
+    };
+    let ps = work_lists::shown(first, second, left.points * 2, left.in_second);
+    Ok(floats::magnitude(outline::signed_area2(ps)))
 }

@@ -11,27 +11,28 @@ use lib.Seq.{length-take-le}
 use lib.Dec.{ltb}
 use lib.Ieee.{Float}
 use borrow.Author.Tests.{lt-ltb, le-ltb, ltb-true, ltb-false}
+use Rattle.std.specs.Prelude.{Option, Some, None, Result, Ok, Err}
 use Rattle.places.proofs.Loops.{drop_more}
 use Rattle.flat.specs.Points.{Point}
 use Rattle.work_lists.specs.declared.Step.{Step}
-use Rattle.work_lists.specs.declared.Step.TheVariants.{Kept, Gone, Full, Made}
-use Rattle.work_lists.specs.declared.Left.{Left}
-use Rattle.work_lists.specs.declared.Left.TheVariants.{Nothing, Outline, NoRoom}
+use Rattle.work_lists.specs.declared.Step.TheVariants.{Kept, Gone, Made}
+use Rattle.work_lists.specs.declared.NoRoom.{NoRoom}
+use Rattle.work_lists.specs.declared.Outline.{Outline}
 use Rattle.work_lists.specs.WorkLists.{Change, whole, gone, full, made, Outcome, nothing, no_room, outline, left_by, run_of}
 use Rattle.work_lists.specs.WorkLists.{clipped_of, shorter_of, answer_of}
 use Rattle.work_lists.specs.Steps.{Ended, Shows, shows_whole, shows_gone, shows_full, shows_made, Moved}
 
 -- ---- what an answer says of the change
-kept_is : {room : ℕ} {c : Change} {l : List Point} → Shows room c Kept l → c ≡ whole
+kept_is : {room : ℕ} {c : Change} {l : List Point} → Shows room c (Ok Kept) l → c ≡ whole
 kept_is shows_whole = refl
 
-gone_is : {room : ℕ} {c : Change} {l : List Point} → Shows room c Gone l → c ≡ gone
+gone_is : {room : ℕ} {c : Change} {l : List Point} → Shows room c (Ok Gone) l → c ≡ gone
 gone_is shows_gone = refl
 
-full_is : {room : ℕ} {c : Change} {l : List Point} → Shows room c Full l → c ≡ full
+full_is : {room : ℕ} {c : Change} {e : NoRoom} {l : List Point} → Shows room c (Err e) l → c ≡ full
 full_is shows_full = refl
 
-made_is : {room n : ℕ} {c : Change} {l : List Point} → Shows room c (Made n) l → (n ≤ room) × (c ≡ made (take n l))
+made_is : {room n : ℕ} {c : Change} {l : List Point} → Shows room c (Ok (Made n)) l → (n ≤ room) × (c ≡ made (take n l))
 made_is (shows_made h e) = (h, ap made (sym e))
 
 -- ---- the two lists
@@ -40,21 +41,22 @@ cond_not true x y = refl
 cond_not false x y = refl
 
 -- both lists keep their lengths
-sizes : {E : Type 0} {room : ℕ} {change : E → List Point → Change} {e : E} {n : ℕ} {second : Bool} {a b : List Point} {r : Step}
-    {a' b' : List Point} → Moved room change e n second a b r a' b' → (length a' ≡ length a) × (length b' ≡ length b)
+sizes : {E : Type 0} {room : ℕ} {change : E → List Point → Change} {e : E} {n : ℕ} {second : Bool} {a b : List Point}
+    {r : Result Step NoRoom} {a' b' : List Point} → Moved room change e n second a b r a' b' → (length a' ≡ length a) × (length b' ≡ length b)
 sizes {second = true} m = (m.long, ap length m.same)
 sizes {second = false} m = (ap length m.same, m.long)
 
 -- ---- how a clipping ends
 module _ {o : Outcome} {a b : List Point} where
-  pub ended_nothing : o ≡ nothing → Ended o Nothing a b
+  pub ended_nothing : o ≡ nothing → Ended o (Ok None) a b
   ended_nothing e = rw e (record { answer = refl; stands = refl })
 
-  pub ended_full : o ≡ no_room → Ended o NoRoom a b
+  pub ended_full : {e : NoRoom} → o ≡ no_room → Ended o (Err e) a b
   ended_full e = rw e (record { answer = refl; stands = refl })
 
 -- an outline of points is their number, and which list they stand in
-outline_answer : (second : Bool) (ps : List Point) → 0 < length ps → Outline (length ps) second ≡ answer_of (outline second ps)
+outline_answer : (second : Bool) (ps : List Point) → 0 < length ps
+    → Ok (Some (record { points = length ps; in_second = second })) ≡ answer_of (outline second ps)
 outline_answer second [] h = absurd (omega arith)
 outline_answer second (p ∷ ps) h = refl
 
@@ -109,14 +111,16 @@ module _ {E : Type 0} {read : List Float → List Point} {room : ℕ} {change : 
 
     -- one turn of the loop: e is the next, and it was applied to the outline that stands
     module _ {e : E} {a' b' : List Float} (d : E) (h : i < length es) (at : e ≡ get_or es i d) where
-      pub alternate_gone : Moved room change e n second (read a) (read b) Gone (read a') (read b') → Ended left Nothing (read a') (read b')
+      pub alternate_gone : Moved room change e n second (read a) (read b) (Ok Gone) (read a') (read b')
+          → Ended left (Ok None) (read a') (read b')
       alternate_gone m = ended_nothing (sym (rw (gone_is m.shows, run_nothing change) at (next d h at)))
 
-      pub alternate_full : Moved room change e n second (read a) (read b) Full (read a') (read b') → Ended left NoRoom (read a') (read b')
+      pub alternate_full : {f g : NoRoom} → Moved room change e n second (read a) (read b) (Err f) (read a') (read b')
+          → Ended left (Err g) (read a') (read b')
       alternate_full m = ended_full (sym (rw (full_is m.shows, run_full change) at (next d h at)))
 
       module _ (f : length a' ≡ length a) (g : length b' ≡ length b) where
-        pub alternate_kept : Moved room change e n second (read a) (read b) Kept (read a') (read b')
+        pub alternate_kept : Moved room change e n second (read a) (read b) (Ok Kept) (read a') (read b')
             → Alternating read room change es left a₀ b₀ (i + 1) n second a' b'
         alternate_kept m =
             let l = sizes m in
@@ -130,7 +134,7 @@ module _ {E : Type 0} {read : List Float → List Point} {room : ℕ} {change : 
               so = rw m.same (rw (kept_is m.shows) at (next d h at));
             }
 
-        pub alternate_made : {k : ℕ} → Moved room change e n second (read a) (read b) (Made k) (read a') (read b')
+        pub alternate_made : {k : ℕ} → Moved room change e n second (read a) (read b) (Ok (Made k)) (read a') (read b')
             → Alternating read room change es left a₀ b₀ (i + 1) k (not second) a' b'
         alternate_made m =
             let l = sizes m in
@@ -149,10 +153,11 @@ module _ {E : Type 0} {read : List Float → List Point} {room : ℕ} {change : 
     unfolding run_of
     last h = sym (rw (drop_of_length-le es h) at q.so)
 
-    pub alternate_none : length es ≤ i → n ≡ 0 → Ended left Nothing (read a) (read b)
+    pub alternate_none : length es ≤ i → n ≡ 0 → Ended left (Ok None) (read a) (read b)
     alternate_none h z = rw (last h, z) (record { answer = refl; stands = refl })
 
-    pub alternate_end : length es ≤ i → n ≢ 0 → Ended left (Outline n second) (read a) (read b)
+    pub alternate_end : length es ≤ i → n ≢ 0
+        → Ended left (Ok (Some (record { points = n; in_second = second }))) (read a) (read b)
     alternate_end h z =
         let l : length standing ≡ n = length-take-le n (cond second (read b) (read a)) stands_in in
         rw (last h) (record { answer = rw l at (outline_answer second standing (omega arith)); stands = rw l })
@@ -167,11 +172,11 @@ shorter_fits a b = go (ltb b a) refl
     go false e = let h : a ≤ b = ltb-false b a e in (omega arith, omega arith)
 
 module _ {E : Type 0} (room : ℕ) (change : E → List Point → Change) (es : List E) (ps : List Point) where
-  pub clipped_full : {a b : List Point} → room < length ps → Ended (clipped_of room change es ps) NoRoom a b
+  pub clipped_full : {a b : List Point} {e : NoRoom} → room < length ps → Ended (clipped_of room change es ps) (Err e) a b
   unfolding clipped_of
   clipped_full h = rw (lt-ltb room (length ps) h) (record { answer = refl; stands = refl })
 
-  pub clipped_run : {r : Left} {a b : List Point} → length ps ≤ room → Ended (run_of change es (outline false ps)) r a b
+  pub clipped_run : {r : Result (Option Outline) NoRoom} {a b : List Point} → length ps ≤ room → Ended (run_of change es (outline false ps)) r a b
       → Ended (clipped_of room change es ps) r a b
   unfolding clipped_of
   clipped_run h q = rw (le-ltb room (length ps) h) q

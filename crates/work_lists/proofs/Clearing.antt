@@ -10,10 +10,12 @@ use native.Mathlib.Omega.{arith}
 use lib.ListN.{length, take, replicate, length-take}
 use lib.Seq.{length-take-le}
 use lib.Ieee.{Float}
+use Rattle.std.specs.Prelude.{Option, Result}
 use Rattle.places.specs.Stored.{joined}
 use Rattle.floats.specs.F64.{zero64}
 use Rattle.flat.specs.Points.{Point}
-use Rattle.work_lists.specs.declared.Left.{Left}
+use Rattle.work_lists.specs.declared.NoRoom.{NoRoom}
+use Rattle.work_lists.specs.declared.Outline.{Outline}
 use Rattle.work_lists.proofs.Wiping.{wiped}
 use Rattle.work_lists.proofs.Endings.{Reads}
 use Rattle.work_lists.specs.WorkLists.{Outcome, nothing, no_room, outline, answer_of, showing, list_after}
@@ -72,7 +74,7 @@ numbers_are (outline second (p ∷ ps)) size which = go (beq second which)
     go false = omega arith
 
 -- and they stand at its front
-stand_there : {o : Outcome} {r : Left} {a b : List Point} (which : Bool) → Ended o r a b
+stand_there : {o : Outcome} {r : Result (Option Outline) NoRoom} {a b : List Point} (which : Bool) → Ended o r a b
     → take (length (shown_in o which)) (cond which b a) ≡ shown_in o which
 stand_there {o = nothing} which q = refl
 stand_there {o = no_room} which q = refl
@@ -95,7 +97,7 @@ module _ {size : ℕ} {read : List Float → List Point} (s : Reads size read) w
         let g : length (joined ps) ≡ length ps * size = ap length f ∙ length-take-le (length ps * size) l (s.fits (length ps) l held) in
         rw (g, f)
 
-  module _ {o : Outcome} {r : Left} {a b : List Float} (q : Ended o r (read a) (read b)) where
+  module _ {o : Outcome} {r : Result (Option Outline) NoRoom} {a b : List Float} (q : Ended o r (read a) (read b)) where
     -- how many numbers the answer shows of a list
     numbers : (which : Bool) → shown_numbers r size which ≡ length (shown_in o which) * size
     numbers which = rw q.answer (numbers_are o size which)

@@ -7,10 +7,12 @@ use Prim.Native.Nat.{ℕ, zero, suc, ◌*◌, ◌/◌, ◌≤◌}
 use native.Mathlib.Omega.{arith}
 use lib.ListN.{length, take, length-take}
 use lib.Ieee.{Float}
+use Rattle.std.specs.Prelude.{Some, None, Ok, Err}
 use Rattle.places.specs.Stored.{in_threes, in_pairs, joined}
 use Rattle.places.proofs.Stored.{length_threes, length_pairs, threes_take, pairs_take}
 use Rattle.flat.specs.Points.{Point}
-use Rattle.work_lists.specs.declared.Left.TheVariants.{Nothing, Outline, NoRoom}
+use Rattle.work_lists.specs.declared.NoRoom.{NoRoom}
+use Rattle.work_lists.specs.declared.Outline.{Outline}
 use Rattle.work_lists.specs.WorkLists.{Outcome, nothing, no_room, outline, outline_of}
 use Rattle.work_lists.specs.Steps.{Ended}
 
@@ -49,26 +51,26 @@ reads_pairs = record { count = length_pairs; fits = λ n l h. omega (arith, leng
 
 -- ---- from an answer back to the outcome
 -- nothing is left, or an outline of no points
-pub nothing_left : {o : Outcome} {a b : List Point} → Ended o Nothing a b → (o ≢ no_room) × (outline_of o ≡ [])
+pub nothing_left : {o : Outcome} {a b : List Point} → Ended o (Ok None) a b → (o ≢ no_room) × (outline_of o ≡ [])
 nothing_left {o = nothing} q = ((λ e. let z : ◌≡◌ {A = ℕ} 0 1 = cc in omega arith), refl)
 nothing_left {o = no_room} q = let z : ◌≡◌ {A = ℕ} 0 1 = cc q.answer in absurd (omega arith)
 nothing_left {o = outline s []} q = ((λ e. let z : ◌≡◌ {A = ℕ} 0 1 = cc in omega arith), refl)
 nothing_left {o = outline s (p ∷ ps)} q = let z : ◌≡◌ {A = ℕ} 0 1 = cc q.answer in absurd (omega arith)
 
-pub room_lacks : {o : Outcome} {a b : List Point} → Ended o NoRoom a b → o ≡ no_room
+pub room_lacks : {o : Outcome} {a b : List Point} {e : NoRoom} → Ended o (Err e) a b → o ≡ no_room
 room_lacks {o = nothing} q = let z : ◌≡◌ {A = ℕ} 0 1 = cc q.answer in absurd (omega arith)
 room_lacks {o = no_room} q = refl
 room_lacks {o = outline s []} q = let z : ◌≡◌ {A = ℕ} 0 1 = cc q.answer in absurd (omega arith)
 room_lacks {o = outline s (p ∷ ps)} q = let z : ◌≡◌ {A = ℕ} 0 1 = cc q.answer in absurd (omega arith)
 
-outline_is : {o : Outcome} {n : ℕ} {second : Bool} {a b : List Point} → Ended o (Outline n second) a b
-    → (o ≡ outline second (take n (cond second b a))) × (n ≤ length (cond second b a))
+outline_is : {o : Outcome} {left : Outline} {a b : List Point} → Ended o (Ok (Some left)) a b
+    → (o ≡ outline left.in_second (take left.points (cond left.in_second b a))) × (left.points ≤ length (cond left.in_second b a))
 outline_is {o = nothing} q = let z : ◌≡◌ {A = ℕ} 0 1 = cc q.answer in absurd (omega arith)
 outline_is {o = no_room} q = let z : ◌≡◌ {A = ℕ} 0 1 = cc q.answer in absurd (omega arith)
 outline_is {o = outline s []} q = let z : ◌≡◌ {A = ℕ} 0 1 = cc q.answer in absurd (omega arith)
-outline_is {o = outline s (p ∷ ps)} {n} {second} {a} {b} q =
-    let e : n ≡ length (p ∷ ps) = cc q.answer in
-    let f : second ≡ s = cc q.answer in
+outline_is {o = outline s (p ∷ ps)} {left} {a} {b} q =
+    let e : left.points ≡ length (p ∷ ps) = cc q.answer in
+    let f : left.in_second ≡ s = cc q.answer in
     rw (e, f) (ap (outline s) (sym q.stands), omega (arith, length-take (length (p ∷ ps)) (cond s b a), ap length q.stands))
 
 -- ---- the outline that an answer shows, by the numbers of its list
@@ -76,17 +78,17 @@ cond_of : {A B : Type 0} (f : A → B) (s : Bool) (x y : A) → cond s (f x) (f 
 cond_of f true x y = refl
 cond_of f false x y = refl
 
-module _ {size : ℕ} {read : List Float → List Point} (s : Reads size read) {o : Outcome} {n : ℕ} {second : Bool} {a b : List Float}
-    (q : Ended o (Outline n second) (read a) (read b)) where
-  pub outline_left : o ≡ outline second (take n (read (cond second b a)))
-  outline_left = rw (cond_of read second b a) at (outline_is q).0
+module _ {size : ℕ} {read : List Float → List Point} (s : Reads size read) {o : Outcome} {left : Outline} {a b : List Float}
+    (q : Ended o (Ok (Some left)) (read a) (read b)) where
+  pub outline_left : o ≡ outline left.in_second (take left.points (read (cond left.in_second b a)))
+  outline_left = rw (cond_of read left.in_second b a) at (outline_is q).0
 
-  pub outline_fits : n * size ≤ length (cond second b a)
-  outline_fits = s.fits n (cond second b a) (rw (cond_of read second b a) at (outline_is q).1)
+  pub outline_fits : left.points * size ≤ length (cond left.in_second b a)
+  outline_fits = s.fits left.points (cond left.in_second b a) (rw (cond_of read left.in_second b a) at (outline_is q).1)
 
-  pub outline_small : {k : ℕ} → length a ≤ k → length b ≤ k → n * size ≤ k
-  outline_small {k} f g = go second outline_fits
+  pub outline_small : {k : ℕ} → length a ≤ k → length b ≤ k → left.points * size ≤ k
+  outline_small {k} f g = go left.in_second outline_fits
     where
-      go : (t : Bool) → n * size ≤ length (cond t b a) → n * size ≤ k
+      go : (t : Bool) → left.points * size ≤ length (cond t b a) → left.points * size ≤ k
       go true h = omega arith
       go false h = omega arith

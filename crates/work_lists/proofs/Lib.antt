@@ -1,4 +1,6 @@
 pub mod Filling
+pub mod Smaller
+pub mod PassedUp
 pub mod Wiping
 pub mod Alternation
 pub mod Endings

@@ -8,7 +8,9 @@ use native.Mathlib.Nat.{sub-zero}
 use lib.ListN.{length, take}
 use lib.Seq.{length-take-le}
 use lib.Ieee.{Float}
+use Rattle.std.specs.Prelude.{Result}
 use Rattle.flat.specs.Points.{Point}
+use Rattle.work_lists.specs.declared.NoRoom.{NoRoom}
 use Rattle.work_lists.specs.declared.Step.{Step}
 use Rattle.work_lists.specs.WorkLists.{Change, shorter_of}
 use Rattle.work_lists.specs.Steps.{Shows, Moved}
@@ -43,7 +45,8 @@ module _ {size : ℕ} {read : List Float → List Point} (s : Reads size read) w
     room_second = rw (s.count b, e) (shorter_fits (length a / size) (length b / size)).1
 
   -- ---- a step reads the stretch of one list and writes to the other
-  module _ {E : Type 0} {room : ℕ} {change : E → List Point → Change} {e : E} {n : ℕ} {r : Step} {second : Bool} (a b : List Float) where
+  module _ {E : Type 0} {room : ℕ} {change : E → List Point → Change} {e : E} {n : ℕ} {r : Result Step NoRoom} {second : Bool}
+      (a b : List Float) where
     pub moved_to_first : (a' : List Float) → second ≡ true → length a' ≡ length a
         → Shows room (change e (read (take (n * size - 0) b))) r (read a')
         → Moved room change e n second (read a) (read b) r (read a') (read b)

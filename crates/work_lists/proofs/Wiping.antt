@@ -1,29 +1,21 @@
--- The loop of `wipe`: storing +0 at each place from a place on is the list cut off there and then +0, which starts its invariant.
-use mathlib.Core.Path.{◌≡◌, sym, ◌∙◌}
-use mathlib.Core.List.{List, ◌++◌, append_assoc, append-nil}
-use Prim.Native.Nat.{ℕ, zero, suc, ◌+◌, ◌-◌, ◌≤◌}
+-- A list with +0 from a place on, and the stretch from that place filled with +0: the same list.
+use mathlib.Core.Path.{◌≡◌}
+use mathlib.Core.List.{List, ◌++◌, append-nil}
+use Prim.Native.Nat.{ℕ, ◌-◌, ◌≤◌}
 use native.Mathlib.Omega.{arith}
-use native.Mathlib.Numerals.{add-one}
-use lib.ListN.{length, set, take, replicate, length-set}
-use lib.Seq.{take-suc-set, take_all}
+use lib.ListN.{length, take, drop, replicate, length-take, length-drop, drop_of_length-le}
 use lib.Ieee.{Float}
-use Rattle.places.proofs.Folding.{fold_from, Folding}
+use borrow.Rule.Slice.PartMut.{mid_of, put_mid}
 use Rattle.floats.specs.F64.{zero64}
-
--- a step: place i gets +0
-abbrev pub zero_at : ℕ → List Float → List Float
-zero_at i l = set l i zero64
 
 -- the list with +0 from a place on
 abbrev pub wiped : ℕ → List Float → List Float
 wiped start l = take start l ++ replicate (length l - start) zero64
 
-wiped_from : (left i : ℕ) (l : List Float) → i + left ≡ length l → fold_from zero_at left i l ≡ take i l ++ replicate left zero64
-unfolding fold_from
-wiped_from zero i l h = sym (append-nil (take i l) ∙ take_all i l (omega arith))
-wiped_from (suc left) i l h =
-    wiped_from left (i + 1) (zero_at i l) (rw length-set (omega arith))
-    ∙ rw (add-one i, take-suc-set l i zero64 (omega arith), append_assoc)
-
-pub wipe_start : (l : List Float) (start : ℕ) → start ≤ length l → Folding zero_at (length l) (wiped start l) start l
-wipe_start l start h = record { within = h; so = wiped_from (length l - start) start l (omega arith) }
+pub wiped_is : (start : ℕ) (l filled : List Float) → start ≤ length l
+    → filled ≡ replicate (length (mid_of start (length l - start) l)) zero64 → put_mid start (length l - start) l filled ≡ wiped start l
+wiped_is start l filled h e =
+    let many : length (take (length l - start) (drop start l)) ≡ length l - start = simp (length-take, length-drop) (omega arith) in
+    let f : filled ≡ replicate (length l - start) zero64 = rw many at e in
+    let over : length (drop start l) ≤ length l - start = rw length-drop (omega arith) in
+    rw (f, drop_of_length-le (drop start l) over, append-nil)

@@ -1,11 +1,12 @@
 -- Work lists: clipping goes from one to the other and back, and shows what is left in the one where it ended.
 use Rattle.std.specs.Prelude.{ℕ, ◌-◌, Bool, true, false, not, cond, List, [], ◌∷◌, ◌++◌, length, replicate, ltb, Float}
+use Rattle.std.specs.Prelude.{Option, Some, None, Result, Ok, Err}
 use Rattle.std.specs.Bool.{beq}
 use Rattle.places.specs.Stored.{joined}
 use Rattle.floats.specs.F64.{zero64}
 use Rattle.flat.specs.Points.{Point}
-use Rattle.work_lists.specs.declared.Left.{Left}
-use Rattle.work_lists.specs.declared.Left.TheVariants.{Nothing, Outline, NoRoom}
+use Rattle.work_lists.specs.declared.NoRoom.{NoRoom}
+use Rattle.work_lists.specs.declared.Outline.{Outline}
 
 -- what one plane or edge makes of an outline: it leaves it whole, leaves nothing, has no room for what it leaves, or makes another of it
 pub data Change : Type 0 where
@@ -49,11 +50,11 @@ outline_of no_room = []
 outline_of (outline second ps) = ps
 
 -- ---- the answer of SCOPE 11: an outline of 0 points reads as nothing left
-abbrev pub answer_of : Outcome → Left
-answer_of nothing = Nothing
-answer_of no_room = NoRoom
-answer_of (outline second []) = Nothing
-answer_of (outline second (p ∷ ps)) = Outline (length (p ∷ ps)) second
+abbrev pub answer_of : Outcome → Result (Option Outline) NoRoom
+answer_of nothing = Ok None
+answer_of no_room = Err (record {})
+answer_of (outline second []) = Ok None
+answer_of (outline second (p ∷ ps)) = Ok (Some (record { points = length (p ∷ ps); in_second = second }))
 
 -- a list of n numbers that shows points, or shows none: +0 in every other number
 abbrev pub showing : Bool → List Point → ℕ → List Float

@@ -6,36 +6,30 @@ ghost use Rattle.floats.specs.F64.{zero64};
 ghost use Rattle.work_lists.specs.WorkLists.{shorter_of};
 ghost use Rattle.work_lists.specs.Steps.{shown_numbers};
 
-// What one plane or edge makes of an outline: it is left whole, nothing is left, there is no room,
-// or so many points are left in the other list.
-#[derive(Clone, Copy)]
+// A work list has no room for what a step makes. Clipping knows no refusal numbers: `geometry` gives them.
+#[derive(Clone, Copy, Debug, PartialEq, Eq)]
+pub struct NoRoom;
+
+// What one plane or edge makes of an outline: it is left whole, nothing is left, or so many points are left in the other list.
+#[derive(Clone, Copy, Debug, PartialEq, Eq)]
 pub enum Step {
     Kept,
     Gone,
-    Full,
     Made(usize),
 }
 
-// Nothing is left; or an outline of so many points, in the first work list (false) or in the second (true); or there is no room.
-#[derive(Clone, Copy)]
-pub enum Left {
-    Nothing,
-    Outline(usize, bool),
-    NoRoom,
-}
-
-// A sum over what is left, or there is no room in the lists. Clipping knows no refusal numbers: `geometry` gives them.
-#[derive(Clone, Copy)]
-pub enum Sum {
-    Is(f64),
-    NoRoom,
+// An outline that is left: so many points, in the first work list or in the second.
+#[derive(Clone, Copy, Debug, PartialEq, Eq)]
+pub struct Outline {
+    pub points: usize,
+    pub in_second: bool,
 }
 
 // The smaller of two numbers.
 pub fn shorter(a: usize, b: usize) -> usize
     ensures { result ≡ shorter_of a b }
 {
-    if b < a { b } else { a }
+    a.min(b)
 }
 
 // The filled stretch of the list where an outline ended, n numbers long.
@@ -57,12 +51,7 @@ pub fn wipe(s: &mut [f64], from: usize)
     requires { from ≤ length s.old }
     ensures { s.new ≡ take from s.old ++ replicate (length s.old - from) zero64 }
 {
-    let n = s.len();
-    let mut i = from;
-    while i < n {
-        s[i] = 0.0;
-        i += 1;
-    }
+    s[from..].fill(0.0);
 }
 
 // +0 in every number of both lists, save the first n of the one that shows an outline.
@@ -83,7 +72,12 @@ pub fn settle(first: &mut [f64], second: &mut [f64], n: usize, in_second: bool)
 
 // The same by an answer, at so many numbers a point: where it shows no outline nothing is left.
 // Ruled out: numbers of an outline cleared with the rest; a refused call that leaves what it wrote.
-pub fn settle_answer(first: &mut [f64], second: &mut [f64], r: Left, size: usize)
+pub fn settle_answer(
+    first: &mut [f64],
+    second: &mut [f64],
+    r: Result<Option<Outline>, NoRoom>,
+    size: usize,
+)
     requires { (shown_numbers r size false ≤ length first.old) × (shown_numbers r size true ≤ length second.old) }
     ensures first_value { first.new ≡ take (shown_numbers r size false) first.old
         ++ replicate (length first.old - shown_numbers r size false) zero64 }
@@ -91,8 +85,7 @@ pub fn settle_answer(first: &mut [f64], second: &mut [f64], r: Left, size: usize
         ++ replicate (length second.old - shown_numbers r size true) zero64 }
 {
     match r {
-        Left::Nothing => settle(first, second, 0, false),
-        Left::Outline(n, in_second) => settle(first, second, n * size, in_second),
-        Left::NoRoom => settle(first, second, 0, false),
+        Ok(Some(left)) => settle(first, second, left.points * size, left.in_second),
+        Ok(None) | Err(NoRoom) => settle(first, second, 0, false),
     }
 }

@@ -1,4 +1,3 @@
-use Prim.Native.Nat.{◌-◌}
 use Rattle.places.specs.Loops.{count_of}
 use Rattle.places.proofs.Loops.{Counting}
 use Rattle.flat.specs.Points.{vertices_of}
@@ -8,6 +7,3 @@ use Rattle.clip.proofs.count_out.Given as goal
 abbrev pub invariant-loop-i : goal.invariant-loop-i
 invariant-loop-i l =
     Counting (beyond l.plane l.eps) (vertices_of l.src) (count_of (beyond l.plane l.eps) (vertices_of l.src)) l.i l.out
-
-abbrev pub decreases-loop-i : goal.decreases-loop-i
-decreases-loop-i l = l.n - l.i

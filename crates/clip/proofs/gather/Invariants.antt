@@ -1,5 +1,4 @@
 use mathlib.Core.Path.{◌≡◌}
-use Prim.Native.Nat.{◌-◌}
 use lib.ListN.{length, drop}
 use Rattle.flat.specs.Points.{vertices_of, corners_of}
 use Rattle.work_lists.proofs.Filling.{Rest}
@@ -10,6 +9,3 @@ invariant-loop-i l =
     (length l.dst ≡ length l.initial.dst) ×
     Rest (corners_of (vertices_of l.coords) l.face) (vertices_of l.initial.dst) l.i (drop l.i (corners_of (vertices_of l.coords) l.face))
     (vertices_of l.dst)
-
-abbrev pub decreases-loop-i : goal.decreases-loop-i
-decreases-loop-i l = l.n - l.i

@@ -1,5 +1,4 @@
 use mathlib.Core.Bool.{false}
-use Prim.Native.Nat.{◌-◌}
 use lib.ListN.{take}
 use Rattle.places.specs.Stored.{in_threes}
 use Rattle.planes.specs.Planes.{in_fours}
@@ -13,6 +12,3 @@ invariant-loop-i l =
     Alternating in_threes l.room (plane_change l.room l.eps) (in_fours l.planes)
     (run_of (plane_change l.room l.eps) (in_fours l.planes) (outline false (take l.count (in_threes l.initial.first))))
     l.initial.first l.initial.second l.i l.n l.in_second l.first l.second
-
-abbrev pub decreases-loop-i : goal.decreases-loop-i
-decreases-loop-i l = l.many - l.i

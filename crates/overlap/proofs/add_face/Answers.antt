@@ -2,12 +2,21 @@
 -- definition's; for an outline the numbers that show it have its points.
 use native.Mathlib.Omega.{arith}
 use Rattle.work_lists.proofs.Endings.{reads_threes, outline_fits, outline_small}
+use Rattle.work_lists.proofs.PassedUp.{refused_alike}
 use Rattle.overlap.proofs.Sums.{took_nothing, took_shown, took_refusal}
 use Rattle.overlap.proofs.add_face.Goals as goal
 
-pub overflow_mul-n : goal.overflow_mul-n
-overflow_mul-n c =
-    let ended = rw c.in-Outline.is at c.patch.ensures in
+pub returns-in_err-left : goal.returns-in_err-left
+returns-in_err-left c =
+    rw (refused_alike c.from_residual.ensures.0) (took_refusal _ _ c.in_err-left.ensures)
+
+pub returns-in_default : goal.returns-in_default
+returns-in_default c =
+    took_nothing _ _ (rw c.in_default.is at c.in_ok-left.ensures)
+
+pub overflow_mul-left : goal.overflow_mul-left
+overflow_mul-left c =
+    let ended = rw c.in-Some.is at c.in_ok-left.ensures in
     omega (
       arith,
       outline_small reads_threes ended {k = 3072} (rw c.patch.auto.first c.requires.ready.short_first)
@@ -16,17 +25,8 @@ overflow_mul-n c =
 
 pub shown-shown-requires : goal.shown-shown-requires
 shown-shown-requires c =
-    outline_fits reads_threes (rw c.in-Outline.is at c.patch.ensures)
+    outline_fits reads_threes (rw c.in-Some.is at c.in_ok-left.ensures)
 
-pub returns-in-Nothing : goal.returns-in-Nothing
-returns-in-Nothing c =
-    took_nothing _ _ (rw c.in-Nothing.is at c.patch.ensures)
-
-pub returns-in-Outline : goal.returns-in-Outline
-returns-in-Outline c =
-    let ended = rw c.in-Outline.is at c.patch.ensures in
-    took_shown _ _ _ _ ended c.shown-shown.ensures c.contribution.ensures
-
-pub returns-in-NoRoom : goal.returns-in-NoRoom
-returns-in-NoRoom c =
-    took_refusal _ _ (rw c.in-NoRoom.is at c.patch.ensures)
+pub returns : goal.returns
+returns c =
+    took_shown _ _ _ _ (rw c.in-Some.is at c.in_ok-left.ensures) c.shown-shown.ensures c.contribution.ensures

@@ -1,5 +1,4 @@
-use Prim.Native.Nat.{◌-◌, ◌≤◌}
-use lib.ListN.{length}
+use Prim.Native.Nat.{◌≤◌}
 use Rattle.flat.specs.Points.{vertices_of}
 use Rattle.cell.specs.Faces.{faces_of}
 use Rattle.planes.specs.Planes.{in_fours}
@@ -9,16 +8,12 @@ use Rattle.overlap.proofs.Own.{Beside}
 use Rattle.overlap.proofs.Sums.{SameLengths, Adding}
 use Rattle.overlap.proofs.add_faces.Given as goal
 
-abbrev pub invariant-loop-k : goal.invariant-loop-k
-invariant-loop-k l =
+abbrev pub invariant-loop-end : goal.invariant-loop-end
+invariant-loop-end l =
     let vs = vertices_of l.coords in
     let room = room_of l.initial.first l.initial.second in
-    SameLengths l.initial.kept l.initial.first l.initial.second l.kept l.first l.second × (l.j ≤ l.k)
-    × Beside vs l.corners l.ends (in_fours l.own) l.start l.k l.j
+    SameLengths l.initial.kept l.initial.first l.initial.second l.kept l.first l.second × (l.j ≤ l.end-index)
+    × Beside vs l.corners l.ends (in_fours l.own) l.start l.end-index l.j
     × Adding l.m.reference (face_patch l.t.other room l.m vs (in_fours l.planes)) l.corners l.ends
     (added_to l.m.reference l.initial.sum (patches_of l.t.other room l.m vs (faces_of l.corners l.ends) (in_fours l.planes)))
-    l.start l.k l.sum
-
-abbrev pub decreases-loop-k : goal.decreases-loop-k
-decreases-loop-k l =
-    length l.ends - l.k
+    l.start l.end-index l.sum

@@ -1,4 +1,3 @@
-use Prim.Native.Nat.{◌-◌}
 use lib.ListN.{get_or}
 use mathlib.Core.List.{[]}
 use Rattle.flat.specs.Points.{vertices_of}
@@ -8,6 +7,3 @@ use Rattle.overlap.proofs.contribution.Given as goal
 abbrev pub invariant-loop-i : goal.invariant-loop-i
 invariant-loop-i l =
     Fanning l.reference (get_or (vertices_of l.s) 0 []) (vertices_of l.s) (fan_of l.reference (vertices_of l.s)) l.i l.a l.v
-
-abbrev pub decreases-loop-i : goal.decreases-loop-i
-decreases-loop-i l = l.n - l.i

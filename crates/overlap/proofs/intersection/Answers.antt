@@ -13,7 +13,7 @@ returns-then-boxes_miss c =
       c.if-boxes_miss.true,
       ← c.no_area_count-arealess.ensures,
       ← c.no_area_count-arealess2.ensures,
-    ) c.counted.ensures
+    )
 
 pub returns : goal.returns
 unfolding intersection_of overlapped_of

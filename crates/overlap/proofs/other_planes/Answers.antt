@@ -7,24 +7,26 @@ use native.Mathlib.Omega.{arith}
 use Rattle.overlap.proofs.Sifting.{sift_drop, sift_keep, sift_end}
 use borrow.Author.Rules.{rules}
 use Rattle.overlap.proofs.other_planes.Goals as goal
+use Rattle.overlap.proofs.other_planes.Goals.{then-not-plane_same_side, else-not-plane_same_side}
 
 pub put_plane-requires : goal.put_plane-requires
 put_plane-requires c =
     omega (arith, length_fours c.loop-i.kept, length_fours c.args.planes.now, c.loop-i.invariant.1.few)
 
-pub loop-i-preserved-then-not-plane_same_side : goal.loop-i-preserved-then-not-plane_same_side
-loop-i-preserved-then-not-plane_same_side c = (
-  c.put_plane.auto.out ∙ c.loop-i.invariant.0,
-  sift_keep no_plane c.loop-i.invariant.1 (search (rules, length_fours)) c.plane_at-p.ensures
-      (sym c.plane_same_side.ensures ∙ c.if-not-plane_same_side.true) c.put_plane.ensures,
-)
-
 pub loop-i-preserved : goal.loop-i-preserved
-loop-i-preserved c = (
-  c.loop-i.invariant.0,
-  sift_drop no_plane c.loop-i.invariant.1 (search (rules, length_fours)) c.plane_at-p.ensures
-      (sym c.plane_same_side.ensures ∙ c.if-not-plane_same_side.false),
-)
+loop-i-preserved c =
+    elim c.if-not-plane_same_side.branch [
+      | then-not-plane_same_side w ↦ rw (w.kept-is, w.m-is) (
+        w.put_plane.auto.out ∙ c.loop-i.invariant.0,
+        sift_keep no_plane c.loop-i.invariant.1 (search (rules, length_fours)) c.plane_at-p.ensures
+            (sym c.plane_same_side.ensures ∙ w.if-not-plane_same_side.true) w.put_plane.ensures,
+      )
+      | else-not-plane_same_side w ↦ rw (w.kept-is, w.m-is) (
+        c.loop-i.invariant.0,
+        sift_drop no_plane c.loop-i.invariant.1 (search (rules, length_fours)) c.plane_at-p.ensures
+            (sym c.plane_same_side.ensures ∙ w.if-not-plane_same_side.false),
+      )
+    ]
 
 pub returns : goal.returns
 returns c =

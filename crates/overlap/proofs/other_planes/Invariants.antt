@@ -1,5 +1,4 @@
 use mathlib.Core.Path.{◌≡◌}
-use Prim.Native.Nat.{◌-◌}
 use lib.ListN.{length}
 use Rattle.planes.specs.Planes.{in_fours}
 use Rattle.overlap.proofs.Sifting.{Sifting}
@@ -9,6 +8,3 @@ abbrev pub invariant-loop-i : goal.invariant-loop-i
 invariant-loop-i l =
     (length l.kept ≡ length l.initial.kept) ×
     Sifting l.plane l.tol (in_fours l.planes) (in_fours l.initial.kept) l.i l.m (in_fours l.kept)
-
-abbrev pub decreases-loop-i : goal.decreases-loop-i
-decreases-loop-i l = l.n - l.i

@@ -1,15 +1,18 @@
 -- `overlap::overlap_256` meets its contract: one list has the planes of both cells, the sum over the second cell's faces goes on from
 -- that over the first's, so that it is the sum over what is left of all faces, and the faces without a plane are those of no area.
+use mathlib.Core.Path.{refl, ap}
 use mathlib.Core.List.{List}
 use Prim.Native.Nat.{ℕ, ◌+◌, ◌*◌, ◌-◌}
 use lib.ListN.{take}
 use lib.Ieee.{Float}
+use Rattle.std.specs.Prelude.{Ok}
 use Rattle.flat.specs.Points.{vertices_of}
 use Rattle.cell.specs.Faces.{faces_of}
 use Rattle.planes.specs.Planes.{planes_of}
 use Rattle.overlap.specs.Steps.{Joint}
 use Rattle.overlap.proofs.Overlaps.{overlap_refused, overlap_is, joint_cut, left_over}
 use Rattle.overlap.proofs.Overlaps.{few_coordinates}
+use Rattle.work_lists.proofs.PassedUp.{refused_alike}
 use borrow.Author.Rules.{rules}
 use Rattle.overlap.proofs.overlap_256.Goals as goal
 use Rattle.overlap.proofs.overlap_256.Goals.{After-both_planes-c}
@@ -30,20 +33,29 @@ joint c = joint_cut (all c) (planes c) c.both_planes-c.ensures.joint
 pub measures-m-requires : goal.measures-m-requires
 measures-m-requires c = search (rules, few_coordinates)
 
-pub returns-in-NoRoom : goal.returns-in-NoRoom
-returns-in-NoRoom c =
+pub returns-in_err-sum : goal.returns-in_err-sum
+returns-in_err-sum c =
     let so_far = c.so_far-t.ensures in
-    let none = overlap_refused _ _ _ _ _ _ c.measures-m.ensures (joint (goal.at.returns-in-NoRoom c).After-both_planes-c)
-    (rw (so_far.0, so_far.1, so_far.2, so_far.3) at c.add_faces.ensures) c.in-NoRoom.is in
-    rw (← none)
+    let none = overlap_refused _ _ _ _ _ _ c.measures-m.ensures (joint (goal.at.returns-in_err-sum c).After-both_planes-c)
+    (rw (so_far.0, so_far.1, so_far.2, so_far.3) at c.in_err-sum.ensures) refl in
+    rw (refused_alike c.from_residual.ensures.0, ← none)
 
-pub returns-in-Is : goal.returns-in-Is
-returns-in-Is c =
+pub returns-in_err-whole : goal.returns-in_err-whole
+returns-in_err-whole c =
+    let so_far = c.so_far-t.ensures in
+    let so_far2 = c.so_far-u.ensures in
+    let none = overlap_is _ _ _ _ _ _ c.measures-m.ensures (joint (goal.at.returns-in_err-whole c).After-both_planes-c)
+    (rw (so_far.0, so_far.1, so_far.2, so_far.3) at c.in_ok-sum.ensures) _ _ refl c.add_faces.auto.first c.add_faces.auto.second
+    (rw (so_far2.0, so_far2.1, so_far2.2, so_far2.3) at c.in_err-whole.ensures) refl in
+    rw (refused_alike c.from_residual-in_err-whole.ensures.0, ← none)
+
+pub returns : goal.returns
+returns c =
     let found = c.both_planes-c.result in
     let counts = c.both_planes-c.ensures in
     let so_far = c.so_far-t.ensures in
     let so_far2 = c.so_far-u.ensures in
-    let is = overlap_is _ _ _ _ _ _ c.measures-m.ensures (joint (goal.at.returns-in-Is c).After-both_planes-c)
-    (rw (so_far.0, so_far.1, so_far.2, so_far.3) at c.add_faces.ensures) _ _ c.in-Is.is c.add_faces.auto.first c.add_faces.auto.second
-    (rw (so_far2.0, so_far2.1, so_far2.2, so_far2.3) at c.add_faces-whole.ensures) c.magnitude_of.ensures in
-    rw (← is, ← left_over found.planes counts.ends_value, ← left_over found.planes2 counts.ends2_value) c.counted.ensures
+    let is = overlap_is _ _ _ _ _ _ c.measures-m.ensures (joint (goal.at.returns c).After-both_planes-c)
+    (rw (so_far.0, so_far.1, so_far.2, so_far.3) at c.in_ok-sum.ensures) _ _ refl c.add_faces.auto.first c.add_faces.auto.second
+    (rw (so_far2.0, so_far2.1, so_far2.2, so_far2.3) at c.in_ok-whole.ensures) (ap Ok c.magnitude.ensures) in
+    rw (← is, ← left_over found.planes counts.ends_value, ← left_over found.planes2 counts.ends2_value)

@@ -5,19 +5,17 @@ use Rattle.work_lists.proofs.Endings.{reads_pairs, outline_fits, outline_small}
 use Rattle.planar.proofs.Areas.{area_none, area_shown}
 use Rattle.planar.proofs.convex_intersection_area.Goals as goal
 
-pub overflow_mul-n : goal.overflow_mul-n
-overflow_mul-n c =
-    omega (arith, outline_small reads_pairs c.in-Outline.ensures {k = 3072} (omega arith) (omega arith))
+pub returns-in_default : goal.returns-in_default
+returns-in_default c = area_none (rw c.in_default.is at c.in_ok-left.ensures)
+
+pub overflow_mul-left : goal.overflow_mul-left
+overflow_mul-left c =
+    omega (arith, outline_small reads_pairs (rw c.in-Some.is at c.in_ok-left.ensures) {k = 3072} (omega arith) (omega arith))
 
 pub shown-ps-requires : goal.shown-ps-requires
-shown-ps-requires c =
-    outline_fits reads_pairs c.in-Outline.ensures
+shown-ps-requires c = outline_fits reads_pairs (rw c.in-Some.is at c.in_ok-left.ensures)
 
-pub returns-in-Nothing : goal.returns-in-Nothing
-returns-in-Nothing c =
-    area_none c.in-Nothing.ensures
-
-pub returns-in-Outline : goal.returns-in-Outline
-returns-in-Outline c =
-    area_shown c.clip_convex.new.first c.clip_convex.new.second c.in-Outline.ensures
+pub returns : goal.returns
+returns c =
+    area_shown c.clip_convex.new.first c.clip_convex.new.second (rw c.in-Some.is at c.in_ok-left.ensures)
     c.shown-ps.ensures c.signed_area2.ensures c.magnitude.ensures

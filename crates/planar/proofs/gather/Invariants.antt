@@ -1,5 +1,4 @@
 use mathlib.Core.Path.{◌≡◌}
-use Prim.Native.Nat.{◌-◌}
 use lib.ListN.{length, drop}
 use Rattle.places.specs.Stored.{in_pairs}
 use Rattle.work_lists.proofs.Filling.{Rest}
@@ -9,6 +8,3 @@ abbrev pub invariant-loop-i : goal.invariant-loop-i
 invariant-loop-i l =
     (length l.dst ≡ length l.initial.dst) ×
     Rest (in_pairs l.src) (in_pairs l.initial.dst) l.i (drop l.i (in_pairs l.src)) (in_pairs l.dst)
-
-abbrev pub decreases-loop-i : goal.decreases-loop-i
-decreases-loop-i l = l.n - l.i

@@ -10,9 +10,10 @@ use Rattle.places.proofs.Rings.{length_sides}
 use Rattle.work_lists.proofs.Alternation.{alternate_gone, alternate_full, alternate_kept, alternate_made}
 use Rattle.work_lists.proofs.Alternation.{alternate_none, alternate_end}
 use Rattle.planar.proofs.Edges.{edge_at}
+use Rattle.work_lists.proofs.PassedUp.{refused_alike}
 use borrow.Author.Rules.{rules}
 use Rattle.planar.proofs.run.Goals as goal
-use Rattle.planar.proofs.run.Goals.{After-pair-b}
+use Rattle.planar.proofs.run.Goals.{After-pair-b, in-Kept, in-Made}
 
 -- the two points that were read are the ends of the edge that the loop has come to
 edge : (c : After-pair-b) →
@@ -21,29 +22,30 @@ edge c =
     edge_at (in_pairs c.args.clip.now) (sym (length_pairs c.args.clip.now)) (search (rules, length_pairs)) c.pair-a.ensures
     c.next.ensures.0 c.pair-b.ensures
 
-pub loop-i-preserved-in-Kept : goal.loop-i-preserved-in-Kept
-loop-i-preserved-in-Kept c =
-    alternate_kept c.loop-i.invariant ([], []) (rw length_sides (search (rules, length_pairs)))
-    (edge (goal.at.loop-i-preserved-in-Kept c).After-pair-b)
-    c.advance_from.auto.first c.advance_from.auto.second c.in-Kept.ensures
+pub loop-i-preserved : goal.loop-i-preserved
+loop-i-preserved c =
+    let here = edge (goal.at.loop-i-preserved c).After-pair-b in
+    elim c.match-branch-2.branch [
+      | in-Kept w ↦ rw (w.n-is, w.in_second-is)
+          (alternate_kept c.loop-i.invariant ([], []) (rw length_sides (search (rules, length_pairs))) here
+          c.advance_from.auto.first c.advance_from.auto.second (rw w.in-Kept.is at c.in_ok-advance_from.ensures))
+      | in-Made w ↦ rw (w.n-is, w.in_second-is)
+          (alternate_made c.loop-i.invariant ([], []) (rw length_sides (search (rules, length_pairs))) here
+          c.advance_from.auto.first c.advance_from.auto.second (rw w.in-Made.is at c.in_ok-advance_from.ensures))
+    ]
 
 pub returns-in-Gone : goal.returns-in-Gone
 returns-in-Gone c =
     alternate_gone c.loop-i.invariant ([], []) (rw length_sides (search (rules, length_pairs)))
     (edge (goal.at.returns-in-Gone c).After-pair-b)
-    c.in-Gone.ensures
+    (rw c.in-Gone.is at c.in_ok-advance_from.ensures)
 
-pub returns-in-Full : goal.returns-in-Full
-returns-in-Full c =
-    alternate_full c.loop-i.invariant ([], []) (rw length_sides (search (rules, length_pairs)))
-    (edge (goal.at.returns-in-Full c).After-pair-b)
-    c.in-Full.ensures
-
-pub loop-i-preserved : goal.loop-i-preserved
-loop-i-preserved c =
-    alternate_made c.loop-i.invariant ([], []) (rw length_sides (search (rules, length_pairs)))
-    (edge (goal.at.loop-i-preserved c).After-pair-b)
-    c.advance_from.auto.first c.advance_from.auto.second c.in-Made.ensures
+pub returns-in_err-advance_from : goal.returns-in_err-advance_from
+returns-in_err-advance_from c =
+    rw (refused_alike c.from_residual.ensures.0)
+    (alternate_full c.loop-i.invariant ([], []) (rw length_sides (search (rules, length_pairs)))
+    (edge (goal.at.returns-in_err-advance_from c).After-pair-b)
+    c.in_err-advance_from.ensures)
 
 pub returns-then-n-eq0 : goal.returns-then-n-eq0
 returns-then-n-eq0 c =

@@ -1,5 +1,4 @@
 use mathlib.Core.Bool.{false}
-use Prim.Native.Nat.{◌-◌}
 use lib.ListN.{take}
 use Rattle.places.specs.Stored.{in_pairs}
 use Rattle.places.specs.Ring.{sides}
@@ -13,6 +12,3 @@ invariant-loop-i l =
     Alternating in_pairs l.room (edge_change l.room) (sides (in_pairs l.clip))
     (run_of (edge_change l.room) (sides (in_pairs l.clip)) (outline false (take l.count (in_pairs l.initial.first))))
     l.initial.first l.initial.second l.i l.n l.in_second l.first l.second
-
-abbrev pub decreases-loop-i : goal.decreases-loop-i
-decreases-loop-i l = l.many - l.i

@@ -1,4 +1,3 @@
-use Prim.Native.Nat.{◌-◌}
 use Rattle.places.specs.Loops.{fold_list}
 use Rattle.places.proofs.Loops.{Taking}
 use Rattle.flat.specs.Points.{vertices_of, plus_of}
@@ -7,6 +6,3 @@ use Rattle.overlap.proofs.tolerances.add_points.Given as goal
 abbrev pub invariant-loop-i : goal.invariant-loop-i
 invariant-loop-i l =
     Taking (plus_of 3) (vertices_of l.coords) (fold_list (plus_of 3) (vertices_of l.coords) l.initial.t) l.i l.t
-
-abbrev pub decreases-loop-i : goal.decreases-loop-i
-decreases-loop-i l = l.n - l.i

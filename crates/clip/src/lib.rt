@@ -19,10 +19,10 @@ use work_lists::{NoRoom, Outline, Step};
 fn count_out(src: &[f64], plane: Plane, eps: f64) -> usize
     ensures { result ≡ count_of (beyond plane eps) (vertices_of src.now) }
 {
-    let n = src.len() / 3;
+    let (points, _) = src.as_chunks::<3>();
     let mut out = 0;
-    for i in 0..n {
-        if planes::distance(plane, flat::space::vertex(src, i)) > eps {
+    for &p in points {
+        if planes::distance(plane, p) > eps {
             out += 1;
         }
     }

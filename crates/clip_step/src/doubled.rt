@@ -33,12 +33,10 @@ fn largest_coordinate(p: [f64; 3], m: f64) -> f64
 fn doubled_within(s: &[f64]) -> f64
     ensures { result ≡ doubled_within (vertices_of s.now) }
 {
-    let n = s.len() / 3;
+    let (points, _) = s.as_chunks::<3>();
     let mut m = 0.0;
-    let mut i = 0;
-    while i < n {
-        m = largest_coordinate(flat::space::vertex(s, i), m);
-        i += 1;
+    for &p in points {
+        m = largest_coordinate(p, m);
     }
     1.4210854715202004e-14 * m
 }
@@ -91,10 +89,8 @@ fn space_out(s: &mut [f64], eps: f64, sure: f64) -> usize
     let n = s.len() / 3;
     let mut last = flat::space::vertex(s, 0);
     let mut kept = 1;
-    let mut i = 1;
-    while i < n {
+    for i in 1..n {
         let p = flat::space::vertex(s, i);
-        i += 1;
         if is_far(p, last, eps, sure) {
             flat::space::put_vertex(s, kept, p);
             kept += 1;

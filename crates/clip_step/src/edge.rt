@@ -67,14 +67,12 @@ pub fn trim_at_edge(src: &[f64], dst: &mut [f64], a: [f64; 2], b: [f64; 2]) -> u
     let mut p = first;
     let mut p_in = first_in;
     let mut m = 0;
-    let mut i = 1;
-    while i < n {
+    for i in 1..n {
         let q = outline::pair(src, i);
         let q_in = on_left(a, b, q);
         m = emit(dst, m, a, b, p, p_in, q, q_in);
         p = q;
         p_in = q_in;
-        i += 1;
     }
     emit(dst, m, a, b, p, p_in, first, first_in)
 }

@@ -68,18 +68,15 @@ pub fn trim_by_plane(src: &[f64], dst: &mut [f64], plane: Plane, eps: f64) -> us
     requires src_len_bound { length src.now ≤ most_work_numbers }
     ensures { Filled (trimmed_by plane eps (vertices_of src.now)) 0 (vertices_of dst.old) result (vertices_of dst.new) }
 {
-    let n = src.len() / 3;
-    let mut a = flat::space::vertex(src, n - 1);
+    let (points, _) = src.as_chunks::<3>();
+    let mut a = points[points.len() - 1];
     let mut da = planes::distance(plane, a);
     let mut m = 0;
-    let mut i = 0;
-    while i < n {
-        let b = flat::space::vertex(src, i);
+    for &b in points {
         let db = planes::distance(plane, b);
         m = emit(dst, m, eps, a, da, b, db);
         a = b;
         da = db;
-        i += 1;
     }
     m
 }

@@ -7,16 +7,16 @@ use Prim.Native.Nat.{ℕ, ◌+◌, ◌<◌, ◌≤◌, zero-le}
 use native.Mathlib.Omega.{arith}
 use lib.ListN.{length, get_or, drop, length-drop}
 use lib.Seq.{slice}
+use Rattle.std.specs.Prelude.{Option, Some, None, is_some}
 use Rattle.places.specs.Loops.{one_if, count_of}
 use Rattle.places.proofs.Loops.{drop_more}
 use Rattle.flat.specs.Points.{Point, corners_of}
 use Rattle.cell.specs.Faces.{faces_from, faces_of}
 use Rattle.cell.proofs.Faces.{faces_more, faces_length}
 use Rattle.planes.specs.declared.Plane.{Plane}
-use Rattle.planes.specs.declared.PlaneOrNone.{PlaneOrNone}
 use Rattle.planes.specs.Planes.{has_plane, has_no_area, newell_plane, plane_of, planes_of, no_area_count}
-use Rattle.planes.specs.Steps.{handed}
-use Rattle.planes.proofs.Faces.{handed_plane, handed_no_area, plane_with_area, planes_count}
+use Rattle.planes.specs.Steps.{plane_if}
+use Rattle.planes.proofs.Faces.{answered_plane, answered_no_area, plane_with_area, planes_count}
 use Rattle.overlap.specs.Steps.{Next}
 
 -- ---- the face that comes next
@@ -88,22 +88,21 @@ module _ {vs : List Point} {c es : List ℕ} {own : List Plane} {p k j e : ℕ}
       })
 
   -- one more plane is passed where the face has area
-  pub beside_next : {face : List ℕ} {found : PlaneOrNone} {n : ℕ} → face ≡ slice p e c → found ≡ handed (plane_of (corners_of vs face))
-      → n ≡ one_if found.area → Beside vs c es own e (k + 1) (j + n)
+  pub beside_next : {face : List ℕ} {found : Option Plane} {n : ℕ} → face ≡ slice p e c → found ≡ plane_if (plane_of (corners_of vs face))
+      → n ≡ one_if (is_some found) → Beside vs c es own e (k + 1) (j + n)
   unfolding planes_of
-  beside_next {face} {found} {n} s f g = go found.area refl
+  beside_next {face} {found} {n} s f g = go found f g
     where
       all : drop j own ≡ planes_of vs (face ∷ faces_from e c (drop (k + 1) es))
       all = here ∙ rw s
 
-      go : (a : Bool) → found.area ≡ a → Beside vs c es own e (k + 1) (j + n)
-      go true t =
-          let is : plane_of (corners_of vs face) ≡ has_plane found.plane = handed_plane (plane_of (corners_of vs face)) f t in
-          let more : drop j own ≡ found.plane ∷ planes_of vs (faces_from e c (drop (k + 1) es)) = rw is at all in
-          let at : n ≡ 1 = rw t at g in
-          rw at (record { within = omega (arith, length-drop j own, ap length more); so = drop_one own j more })
-      go false t =
-          let is = handed_no_area (plane_of (corners_of vs face)) f t in
-          let at : n ≡ 0 = rw t at g in
-          let same : j + n ≡ j = omega arith in
+      go : (o : Option Plane) → o ≡ plane_if (plane_of (corners_of vs face)) → n ≡ one_if (is_some o)
+          → Beside vs c es own e (k + 1) (j + n)
+      go (Some q) t one =
+          let is : plane_of (corners_of vs face) ≡ has_plane q = answered_plane (plane_of (corners_of vs face)) t in
+          let more : drop j own ≡ q ∷ planes_of vs (faces_from e c (drop (k + 1) es)) = rw is at all in
+          rw one (record { within = omega (arith, length-drop j own, ap length more); so = drop_one own j more })
+      go None t one =
+          let is = answered_no_area (plane_of (corners_of vs face)) t in
+          let same : j + n ≡ j = omega (arith, one) in
           rw same (record { within = b.within; so = rw is at all })

@@ -8,15 +8,14 @@ use Prim.Native.Nat.{ℕ, ◌*◌, ◌-◌, ◌<◌}
 use native.Mathlib.Omega.{arith}
 use lib.ListN.{length, take}
 use lib.Ieee.{Float}
-use Rattle.std.specs.Prelude.{Option, None, Result, Ok}
+use Rattle.std.specs.Prelude.{Option, Some, None, Result, Ok}
 use Rattle.places.specs.Loops.{any_of}
 use Rattle.places.proofs.Stored.{length_threes}
 use Rattle.flat.specs.Points.{Point}
 use Rattle.planes.specs.declared.Plane.{Plane}
-use Rattle.planes.specs.declared.PlaneOrNone.{PlaneOrNone}
 use Rattle.planes.specs.Planes.{PlaneOrNoArea, no_area, has_plane, in_fours, plane_of}
-use Rattle.planes.specs.Steps.{handed}
-use Rattle.planes.proofs.Faces.{handed_plane, handed_no_area}
+use Rattle.planes.specs.Steps.{plane_if}
+use Rattle.planes.proofs.Faces.{answered_plane, answered_no_area}
 use Rattle.planes.proofs.Stored.{take_fours}
 use Rattle.work_lists.specs.declared.NoRoom.{NoRoom}
 use Rattle.work_lists.specs.declared.Outline.{Outline}
@@ -72,16 +71,16 @@ module _ {a b : List Point} {skipped : Bool} (other : Bool) (room : ℕ) (m : Me
       → Ended (patch_of other room m planes ps (has_plane own)) r a b
   patch_clipped e q = rw (patch_is other room m planes ps own, ← asked, e) q
 
--- ---- a face as its plane or no area is handed on
-module _ {a b : List Point} {own : PlaneOrNone} {r : Result (Option Outline) NoRoom} (other : Bool) (room : ℕ) (m : Measures)
-    (planes : List Plane) (ps : List Point) (is : own ≡ handed (plane_of ps)) where
-  pub patch_without_plane : own.area ≡ false → Ended (clip_face_of room m.eps planes ps) r a b
+-- ---- a face by its plane or nothing, as the code answers it
+module _ {a b : List Point} {r : Result (Option Outline) NoRoom} (other : Bool) (room : ℕ) (m : Measures) (planes : List Plane)
+    (ps : List Point) where
+  pub patch_without_plane : None ≡ plane_if (plane_of ps) → Ended (clip_face_of room m.eps planes ps) r a b
       → Ended (patch_of other room m planes ps (plane_of ps)) r a b
-  patch_without_plane e q = rw (handed_no_area (plane_of ps) is e, patch_no_area other room m planes ps) q
+  patch_without_plane is q = rw (answered_no_area (plane_of ps) is, patch_no_area other room m planes ps) q
 
-  pub patch_with_plane : own.area ≡ true → Ended (patch_of other room m planes ps (has_plane own.plane)) r a b
+  pub patch_with_plane : {own : Plane} → Some own ≡ plane_if (plane_of ps) → Ended (patch_of other room m planes ps (has_plane own)) r a b
       → Ended (patch_of other room m planes ps (plane_of ps)) r a b
-  patch_with_plane e q = rw (handed_plane (plane_of ps) is e) q
+  patch_with_plane is q = rw (answered_plane (plane_of ps) is) q
 
 -- ---- the planes that were laid down are those of the list's front
 pub first_planes : (n : ℕ) (l : List Float) → in_fours (take (n * 4) l) ≡ take n (in_fours l)

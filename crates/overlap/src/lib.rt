@@ -1,7 +1,7 @@
 // The overlap of two cells: each cell's faces clipped by the planes of the other, and the contributions of what is left.
 #![tactic(auto)]
 
-use planes::{Plane, PlaneOrNone};
+use planes::Plane;
 use work_lists::{NoRoom, Outline};
 
 pub mod tolerances;
@@ -15,7 +15,7 @@ ghost use Rattle.cell.specs.Faces.{faces_of};
 ghost use Rattle.cell.specs.Steps.{Sound};
 ghost use Rattle.flat.specs.Steps.{Inside};
 ghost use Rattle.planes.specs.Planes.{has_no_area, has_plane, plane_of, planes_of, no_area_count, in_fours};
-ghost use Rattle.planes.specs.Steps.{handed};
+ghost use Rattle.planes.specs.Steps.{plane_if};
 ghost use Rattle.work_lists.specs.WorkLists.{shorter_of};
 ghost use Rattle.work_lists.specs.Steps.{Ended};
 ghost use Rattle.overlap.specs.Overlap.{contribution_of, other_planes, first_patch, second_patch};
@@ -181,24 +181,23 @@ fn patch(
     t: SumSoFar,
     coords: &[f64],
     face: &[u32],
-    found: PlaneOrNone,
+    found: Option<Plane>,
     planes: &[f64],
     kept: &mut [f64],
     first: &mut [f64],
     second: &mut [f64],
 ) -> Result<Option<Outline>, NoRoom>
     requires ready { Ready (vertices_of coords.now) face.now planes.now first.old second.old }
-    requires found_value { found ≡ handed (plane_of (corners_of (vertices_of coords.now) face.now)) }
+    requires found_value { found ≡ plane_if (plane_of (corners_of (vertices_of coords.now) face.now)) }
     requires planes_in_bounds { length planes.now ≤ length kept.old }
     ensures { Ended (face_patch t.other (room_of first.old second.old) t.m (vertices_of coords.now) (in_fours planes.now)
         face.now) result (vertices_of first.new) (vertices_of second.new) }
 {
     let m = t.m;
     let other = t.other;
-    let plane = found.plane;
-    if !found.area {
+    let Some(plane) = found else {
         return clip::clip_face(coords, face, planes, m.eps, first, second);
-    }
+    };
     if other {
         return second_patch(coords, face, plane, planes, m, first, second);
     }
@@ -210,14 +209,14 @@ fn add_face(
     t: SumSoFar,
     coords: &[f64],
     face: &[u32],
-    found: PlaneOrNone,
+    found: Option<Plane>,
     planes: &[f64],
     kept: &mut [f64],
     first: &mut [f64],
     second: &mut [f64],
 ) -> Result<f64, NoRoom>
     requires ready { Ready (vertices_of coords.now) face.now planes.now first.old second.old }
-    requires found_value { found ≡ handed (plane_of (corners_of (vertices_of coords.now) face.now)) }
+    requires found_value { found ≡ plane_if (plane_of (corners_of (vertices_of coords.now) face.now)) }
     requires planes_in_bounds { length planes.now ≤ length kept.old }
     ensures { result ≡ added_to t.m.reference t.sum (face_patch t.other (room_of first.old second.old) t.m
         (vertices_of coords.now) (in_fours planes.now) face.now ∷ []) }
@@ -270,20 +269,17 @@ fn has_no_area(coords: &[f64], face: &[u32], all: bool) -> bool
     planes::has_no_area(coords, face)
 }
 
-// The plane of a face, or that it has no area, from the planes of its cell: the faces before it have j of them, and `all` says whether all
+// The plane of a face, or nothing where it has no area, from the planes of its cell: the faces before it have j of them, and `all` says whether all
 // faces have one.
-fn own_plane(coords: &[f64], face: &[u32], own: &[f64], j: usize, all: bool) -> PlaneOrNone
+fn own_plane(coords: &[f64], face: &[u32], own: &[f64], j: usize, all: bool) -> Option<Plane>
     requires inside { Inside (vertices_of coords.now) face.now }
     requires next { Next (vertices_of coords.now) face.now (in_fours own.now) j all }
-    ensures { result ≡ handed (plane_of (corners_of (vertices_of coords.now) face.now)) }
+    ensures { result ≡ plane_if (plane_of (corners_of (vertices_of coords.now) face.now)) }
 {
     if has_no_area(coords, face, all) {
-        return planes::no_area();
+        return None;
     }
-    PlaneOrNone {
-        area: true,
-        plane: planes::plane_at(own, j),
-    }
+    Some(planes::plane_at(own, j))
 }
 
 // The contributions of a cell's faces, added to the sum so far in the order of the faces.
@@ -317,7 +313,7 @@ fn add_faces(
         let face = cell::face(corners, start, end as usize);
         let found = own_plane(coords, face, own, j, all);
         start = end as usize;
-        j += places::one_if(found.area);
+        j += places::one_if(found.is_some());
         let u = so_far(t.other, t.count, m, sum);
         sum = add_face(u, coords, face, found, planes, kept, first, second)?;
     }
@@ -349,8 +345,8 @@ fn both_planes(
     PlaneCounts { planes, planes2 }
 }
 
-// The overlap of two cells of at most 16 faces each: one list has the planes of both, the other some of the second's.
-fn overlap_16(
+// The overlap of two cells: one list has the planes of both, the other some of the second's, and they have so many numbers.
+fn overlap_in<const BOTH: usize, const KEPT: usize>(
     coords: &[f64],
     corners: &[u32],
     ends: &[u32],
@@ -362,14 +358,16 @@ fn overlap_16(
 ) -> Result<Shared, NoRoom>
     requires solid { Solid coords.now corners.now ends.now }
     requires solid_2 { Solid coords2.now corners2.now ends2.now }
-    requires ends_len_bound { (length ends.now ≤ 16) × (length ends2.now ≤ 16) }
+    requires both_in_bounds { (length ends.now * 4 + length ends2.now * 4 ≤ BOTH) × (BOTH ≤ 2048) }
+    requires kept_in_bounds { (length ends.now * 4 ≤ KEPT) × (length ends2.now * 4 ≤ KEPT) × (KEPT ≤ 1024) }
     requires first_len_bound { (length first.old ≤ most_work_numbers) × (length second.old ≤ most_work_numbers) }
     ensures { result ≡ both_counted (overlap_of (room_of first.old second.old))
         (vertices_of coords.now) (faces_of corners.now ends.now) (vertices_of coords2.now) (faces_of corners2.now ends2.now) }
 {
-    let mut list = [0.0; 128];
-    let mut kept = [0.0; 64];
+    let mut list = [0.0; BOTH];
+    let mut kept = [0.0; KEPT];
     let c = both_planes(coords, corners, ends, coords2, corners2, ends2, &mut list);
+    let list = &list[..];
     let both = &list[0..(c.planes + c.planes2) * 4];
     let m = tolerances::measures(coords, coords2);
     let t = so_far(false, c.planes, m, 0.0);
@@ -383,47 +381,7 @@ fn overlap_16(
     })
 }
 
-// The same for cells of any number of faces.
-fn overlap_256(
-    coords: &[f64],
-    corners: &[u32],
-    ends: &[u32],
-    coords2: &[f64],
-    corners2: &[u32],
-    ends2: &[u32],
-    first: &mut [f64],
-    second: &mut [f64],
-) -> Result<Shared, NoRoom>
-    requires solid { Solid coords.now corners.now ends.now }
-    requires solid_2 { Solid coords2.now corners2.now ends2.now }
-    requires first_len_bound { (length first.old ≤ most_work_numbers) × (length second.old ≤ most_work_numbers) }
-    ensures { result ≡ both_counted (overlap_of (room_of first.old second.old))
-        (vertices_of coords.now) (faces_of corners.now ends.now) (vertices_of coords2.now) (faces_of corners2.now ends2.now) }
-{
-    let mut list = [0.0; 2048];
-    let mut kept = [0.0; 1024];
-    let c = both_planes(coords, corners, ends, coords2, corners2, ends2, &mut list);
-    let both = &list[0..(c.planes + c.planes2) * 4];
-    let m = tolerances::measures(coords, coords2);
-    let t = so_far(false, c.planes, m, 0.0);
-    let sum = add_faces(t, coords, corners, ends, both, &mut kept, first, second)?;
-    let u = so_far(true, c.planes2, m, sum);
-    let whole = add_faces(u, coords2, corners2, ends2, both, &mut kept, first, second)?;
-    Ok(Shared {
-        volume: floats::magnitude(whole),
-        arealess: ends.len() - c.planes,
-        arealess2: ends2.len() - c.planes2,
-    })
-}
-
-// The larger of two numbers.
-fn larger(a: usize, b: usize) -> usize
-    ensures { (a ≤ result) × (b ≤ result) }
-{
-    if a < b { b } else { a }
-}
-
-// The overlap of two cells. The lists are small where both cells have few faces.
+// The overlap of two cells. The lists are small where both cells have at most 16 faces.
 fn overlap(
     coords: &[f64],
     corners: &[u32],
@@ -440,12 +398,12 @@ fn overlap(
     ensures { result ≡ both_counted (overlap_of (room_of first.old second.old))
         (vertices_of coords.now) (faces_of corners.now ends.now) (vertices_of coords2.now) (faces_of corners2.now ends2.now) }
 {
-    if larger(ends.len(), ends2.len()) <= 16 {
-        return overlap_16(
+    if ends.len().max(ends2.len()) <= 16 {
+        return overlap_in::<128, 64>(
             coords, corners, ends, coords2, corners2, ends2, first, second,
         );
     }
-    overlap_256(
+    overlap_in::<2048, 1024>(
         coords, corners, ends, coords2, corners2, ends2, first, second,
     )
 }

@@ -42,10 +42,10 @@ fn apart(al: f64, ah: f64, bl: f64, bh: f64) -> bool
 fn add_points(coords: &[f64], s: [f64; 3]) -> [f64; 3]
     ensures { result ≡ fold_list (plus_of 3) (vertices_of coords.now) s }
 {
-    let n = coords.len() / 3;
+    let (points, _) = coords.as_chunks::<3>();
     let mut t = s;
-    for i in 0..n {
-        let u = flat::plus3(flat::space::vertex(coords, i), t);
+    for &p in points {
+        let u = flat::plus3(p, t);
         t = u;
     }
     t
@@ -63,11 +63,10 @@ fn mean(s: [f64; 3], n: usize) -> [f64; 3]
 fn farthest(coords: &[f64], c: [f64; 3], m: f64) -> f64
     ensures { result ≡ fold_list (farther_square c) (vertices_of coords.now) m }
 {
-    let n = coords.len() / 3;
+    let (points, _) = coords.as_chunks::<3>();
     let mut far = m;
-    for i in 0..n {
-        let s = clip_step::doubled::square3(flat::space::vertex(coords, i), c);
-        far = floats::largest(far, s);
+    for &p in points {
+        far = floats::largest(far, clip_step::doubled::square3(p, c));
     }
     far
 }

@@ -59,7 +59,8 @@ loop-end-preserved c =
     let here = c.loop-end-test.true in (
       lengths_kept inv.0 c.add_face.auto.kept c.add_face.auto.first c.add_face.auto.second,
       omega (arith, c.one_if-j.ensures.1, inv.1),
-      beside_next inv.2 here refl c.face-face.ensures c.own_plane-found.ensures c.one_if-j.ensures.0,
+      beside_next inv.2 here refl c.face-face.ensures c.own_plane-found.ensures
+          (rw c.is_some.ensures at c.one_if-j.ensures.0),
       add_more inv.3 here refl
           (face_taken _ _ so_far.0 so_far.2 so_far.3 (room_kept inv.0) c.face-face.ensures c.in_ok-sum.ensures),
     )

@@ -12,7 +12,7 @@ has_no_area-requires c =
 
 pub returns-then-has_no_area : goal.returns-then-has_no_area
 returns-then-has_no_area c =
-    rw (plane_without_area _ (sym c.has_no_area.ensures ∙ c.if-has_no_area.true)) c.no_area.ensures
+    rw (plane_without_area _ (sym c.has_no_area.ensures ∙ c.if-has_no_area.true))
 
 pub plane_at-requires : goal.plane_at-requires
 plane_at-requires c =

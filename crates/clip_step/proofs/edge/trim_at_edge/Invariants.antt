@@ -1,5 +1,5 @@
 use mathlib.Core.Path.{◌≡◌}
-use Prim.Native.Nat.{◌-◌, ◌≤◌}
+use Prim.Native.Nat.{◌≤◌}
 use lib.ListN.{length}
 use Rattle.places.specs.Stored.{in_pairs}
 use Rattle.flat.specs.Flat.{crossing_of}
@@ -12,6 +12,3 @@ invariant-loop-i l =
     (length l.dst ≡ length l.initial.dst) × (l.p_in ≡ on_left l.a l.b l.p) × (l.i ≤ l.n) ×
     Trimming (on_left l.a l.b) (crossing_of l.a l.b) (ringed (in_pairs l.src)) (trimmed_at l.a l.b (in_pairs l.src))
     (in_pairs l.initial.dst) l.p l.i l.m (in_pairs l.dst)
-
-abbrev pub decreases-loop-i : goal.decreases-loop-i
-decreases-loop-i l = l.n - l.i

@@ -1,16 +1,15 @@
--- `overlap::tolerances::add_points` meets its contract: from place i on, the sum so far comes to the whole fold over the points.
+-- `overlap::tolerances::add_points` meets its contract: the chunks of three are the points, and from the place on, the sum so far comes to the
+-- whole fold over the points.
+use mathlib.Core.Path.{◌∙◌}
 use mathlib.Core.List.{[]}
+use native.Mathlib.Omega.{arith}
 use Rattle.places.proofs.Loops.{take_next, take_end}
-use Rattle.places.proofs.Stored.{length_threes}
-use borrow.Author.Rules.{rules}
+use Rattle.places.proofs.Stored.{threes_chunks}
 use Rattle.overlap.proofs.tolerances.add_points.Goals as goal
 
-pub loop-i-preserved : goal.loop-i-preserved
-loop-i-preserved c =
-    take_next [] c.loop-i.invariant (search (rules, length_threes)) (cc)
+pub loop-p-preserved : goal.loop-p-preserved
+loop-p-preserved c = take_next [] c.loop-p.invariant (omega arith) (cc)
 
 pub returns : goal.returns
-returns c = take_end c.loop-i.invariant (search (rules, length_threes))
-
-pub vertex-requires : goal.vertex-requires
-vertex-requires c = search (rules, length_threes)
+returns c =
+    rw (← (c.as_chunks.ensures.front ∙ threes_chunks c.args.coords.now)) (take_end c.loop-p.invariant (omega arith))

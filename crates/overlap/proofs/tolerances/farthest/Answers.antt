@@ -1,19 +1,18 @@
--- `overlap::tolerances::farthest` meets its contract: from place i on, the largest square so far comes to the whole fold over the points.
+-- `overlap::tolerances::farthest` meets its contract: the chunks of three are the points, and from the place on, the largest square so far comes to the
+-- whole fold over the points.
+use mathlib.Core.Path.{◌∙◌}
 use mathlib.Core.List.{[]}
+use native.Mathlib.Omega.{arith}
 use Rattle.places.proofs.Loops.{take_next, take_end}
-use Rattle.places.proofs.Stored.{length_threes}
+use Rattle.places.proofs.Stored.{threes_chunks}
 use Rattle.overlap.specs.Steps.{farther_square}
-use borrow.Author.Rules.{rules}
 use Rattle.overlap.proofs.tolerances.farthest.Goals as goal
 
-pub loop-i-preserved : goal.loop-i-preserved
+pub loop-p-preserved : goal.loop-p-preserved
 unfolding farther_square
-loop-i-preserved c =
-    take_next [] c.loop-i.invariant (search (rules, length_threes)) (cc)
+loop-p-preserved c = take_next [] c.loop-p.invariant (omega arith) (cc)
 
 pub returns : goal.returns
 unfolding farther_square
-returns c = take_end c.loop-i.invariant (search (rules, length_threes))
-
-pub vertex-requires : goal.vertex-requires
-vertex-requires c = search (rules, length_threes)
+returns c =
+    rw (← (c.as_chunks.ensures.front ∙ threes_chunks c.args.coords.now)) (take_end c.loop-p.invariant (omega arith))

@@ -89,6 +89,7 @@ fn space_out(s: &mut [f64], eps: f64, sure: f64) -> usize
     let n = s.len() / 3;
     let mut last = flat::space::vertex(s, 0);
     let mut kept = 1;
+    // By index: kept points are written into the list that is read.
     for i in 1..n {
         let p = flat::space::vertex(s, i);
         if is_far(p, last, eps, sure) {

@@ -1,5 +1,6 @@
 // One plane or one edge against an outline: from one list into another; and doubled points dropped in place.
-// The plane's and the edge's forms stand side by side.
+// The plane's and the edge's forms stand side by side: over the dimension a `push` would take the writer of a point and the law by which
+// a list is read, an `emit` keeps by a distance or by a flag, and the loops start at different points. They share definitions and lemmas.
 #![tactic(auto)]
 
 use planes::Plane;

@@ -95,10 +95,7 @@ fn coplanar_skip(other: bool, plane: Plane, p: Plane, tol: f64) -> bool
     if !other {
         return planes::plane_coplanar_opposite(plane, p, tol);
     }
-    if planes::plane_coplanar_opposite(p, plane, tol) {
-        return true;
-    }
-    planes::plane_same_side(p, plane, tol)
+    planes::plane_coplanar_opposite(p, plane, tol) || planes::plane_same_side(p, plane, tol)
 }
 
 // Whether one of the planes does.

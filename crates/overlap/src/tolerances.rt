@@ -12,30 +12,22 @@ use crate::Measures;
 
 // Whether of two boxes one ends before the other starts, along an axis.
 // Ruled out: `<=`, which lets boxes that touch miss each other; asking only whether the first ends before the second.
+#[tactic(auto, unfolding(crate::specs::Tolerances::boxes_miss, crate::specs::Tolerances::apart_along))]
 pub fn boxes_miss(a: [[f64; 3]; 2], b: [[f64; 3]; 2]) -> bool
     ensures { result ≡ boxes_miss a b }
 {
-    let al = a[0];
-    let ah = a[1];
-    let bl = b[0];
-    let bh = b[1];
-    if apart(al[0], ah[0], bl[0], bh[0]) {
-        return true;
-    }
-    if apart(al[1], ah[1], bl[1], bh[1]) {
-        return true;
-    }
-    apart(al[2], ah[2], bl[2], bh[2])
+    let [al, ah] = a;
+    let [bl, bh] = b;
+    apart(al[0], ah[0], bl[0], bh[0])
+        || apart(al[1], ah[1], bl[1], bh[1])
+        || apart(al[2], ah[2], bl[2], bh[2])
 }
 
 // Whether of two stretches of an axis one ends before the other starts.
 fn apart(al: f64, ah: f64, bl: f64, bh: f64) -> bool
     ensures { result ≡ (lt ah bl || lt bh al) }
 {
-    if ah < bl {
-        return true;
-    }
-    bh < al
+    ah < bl || bh < al
 }
 
 // The sum s with the points of a list added in order.

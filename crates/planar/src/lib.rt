@@ -1,5 +1,7 @@
 // An outline of the plane clipped by the edges of another, from one work list into the other and back;
 // and the area of what is left.
+// `run` and `gather` stand beside those of `clip`: one for both would take the step as a closure over both lists, with its contract spelled
+// at each use. They share the law of the loop.
 #![tactic(auto)]
 
 ghost use Rattle.std.specs.Prelude.{◌≡◌, false, ◌<◌, ◌≤◌, length, take};

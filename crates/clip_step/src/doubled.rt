@@ -19,6 +19,7 @@ pub fn square3(a: [f64; 3], b: [f64; 3]) -> f64
 }
 
 // The largest magnitude of a point's coordinates and of m.
+#[tactic(auto, unfolding(crate::specs::Doubled::largest_coordinate))]
 fn largest_coordinate(p: [f64; 3], m: f64) -> f64
     ensures { result ≡ largest_coordinate p m }
 {
@@ -57,6 +58,7 @@ fn sure_square(eps: f64) -> f64
 }
 
 // Whether two points are farther apart than eps; the root is taken only where it is in doubt.
+#[tactic(auto, unfolding(crate::specs::Doubled::dist3_of))]
 fn is_far(a: [f64; 3], b: [f64; 3], eps: f64, sure: f64) -> bool
     requires { Sure eps sure }
     ensures { result ≡ lt eps (dist3_of a b) }

@@ -1,4 +1,6 @@
 // The entries on a cell.
+use places::refusal::Refusal;
+
 ghost use Rattle.std.specs.Prelude.{◌≡◌, [], ◌∷◌};
 ghost use Rattle.geometry.specs.Cells.{volume_answer, centroid_answer, geometric_centroid_answer, bounds_answer, scale_answer};
 ghost use Rattle.geometry.specs.Cells.{closed_answer, contains_answer, point_in_phed_answer, triangles_answer};
@@ -85,8 +87,8 @@ fn uncounted(coords: &[f64], corners: &[u32], ends: &[u32], face: u32) -> u8
 {
     let mut none = [[0; 3]; 1];
     match geometry::triangles(coords, corners, ends, face, &mut none[..0]) {
-        geometry::FaceCut::Is(_) => 6,
-        geometry::FaceCut::Refused(why) => why,
+        Ok(_) => u8::from(Refusal::Room),
+        Err(why) => u8::from(why),
     }
 }
 

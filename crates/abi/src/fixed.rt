@@ -1,4 +1,6 @@
 // The fixed shapes under C names: their corners in one list, three numbers each. Another length is refused 1; any bits pass.
+use places::refusal::Refusal;
+
 ghost use Rattle.std.specs.Prelude.{◌≡◌, [], ◌∷◌};
 ghost use Rattle.places.specs.Loops.{one_if};
 ghost use Rattle.geometry.specs.Leaves.{vertices_of, tet_volume_of_list, wedge_volume_of, hex_volume_of, tet_contains_of};
@@ -11,7 +13,7 @@ pub fn wegrusamt_tet_volume(p: &[f64], out: &mut [f64]) -> u8
         out.old [] }
 {
     if p.len() != 12 {
-        return 1;
+        return u8::from(Refusal::Size);
     }
     let c = answer_lists::given::four(p);
     answer_lists::put(&[geometry::fixed::tet_volume(c[0], c[1], c[2], c[3])], out)
@@ -22,7 +24,7 @@ pub fn wegrusamt_wedge_volume(p: &[f64], out: &mut [f64]) -> u8
         out.old [] }
 {
     if p.len() != 18 {
-        return 1;
+        return u8::from(Refusal::Size);
     }
     answer_lists::put(
         &[geometry::fixed::wedge_volume(answer_lists::given::six(p))],
@@ -34,7 +36,7 @@ pub fn wegrusamt_hex_volume(p: &[f64], out: &mut [f64]) -> u8
     ensures { told result out.new [] ≡ written (of_shape 24 p.now (values (hex_volume_of (vertices_of p.now) ∷ []) [])) out.old [] }
 {
     if p.len() != 24 {
-        return 1;
+        return u8::from(Refusal::Size);
     }
     answer_lists::put(
         &[geometry::fixed::hex_volume(answer_lists::given::eight(p))],
@@ -47,7 +49,7 @@ pub fn wegrusamt_tet_contains(p: &[f64], x: f64, y: f64, z: f64, out: &mut [usiz
         (values [] (one_if (tet_contains_of (x ∷ y ∷ z ∷ []) (vertices_of p.now)) ∷ []))) [] out.old }
 {
     if p.len() != 12 {
-        return 1;
+        return u8::from(Refusal::Size);
     }
     let inside = geometry::fixed::tet_contains([x, y, z], answer_lists::given::four(p));
     answer_lists::put_counts(&[places::one_if(inside)], out)
@@ -58,7 +60,7 @@ pub fn wegrusamt_wedge_contains(p: &[f64], x: f64, y: f64, z: f64, out: &mut [us
         (values [] (one_if (wedge_contains_of (x ∷ y ∷ z ∷ []) (vertices_of p.now)) ∷ []))) [] out.old }
 {
     if p.len() != 18 {
-        return 1;
+        return u8::from(Refusal::Size);
     }
     let inside = geometry::fixed::wedge_contains([x, y, z], answer_lists::given::six(p));
     answer_lists::put_counts(&[places::one_if(inside)], out)
@@ -69,7 +71,7 @@ pub fn wegrusamt_hex_contains(p: &[f64], x: f64, y: f64, z: f64, out: &mut [usiz
         (values [] (one_if (hex_contains_of (x ∷ y ∷ z ∷ []) (vertices_of p.now)) ∷ []))) [] out.old }
 {
     if p.len() != 24 {
-        return 1;
+        return u8::from(Refusal::Size);
     }
     let inside = geometry::fixed::hex_contains([x, y, z], answer_lists::given::eight(p));
     answer_lists::put_counts(&[places::one_if(inside)], out)

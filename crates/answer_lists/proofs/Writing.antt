@@ -9,7 +9,9 @@ use lib.ListN.{length, get_or, set, take, drop, length-append, length-drop}
 use lib.Seq.{take-suc, drop-cons, set_at, take_all, length-take-le}
 use lib.Ieee.{Float}
 use borrow.Author.Tests.{lt-ltb, le-ltb}
-use Rattle.geometry.specs.declared.Clipped.{Clipped}
+use Rattle.geometry.specs.declared.Outline.{Outline}
+use Rattle.geometry.specs.Answers.{Answer}
+use Rattle.std.specs.Prelude.{Option, None, Some, Ok, Err}
 use Rattle.geometry.specs.Answers.{front}
 use Rattle.geometry.specs.Listed.{values, Reply, told, too_short, written, of_clipped, hidden, clipping_told}
 
@@ -109,14 +111,14 @@ module _ (vs : List Float) (ms : List ℕ) (xs : List Float) (ns : List ℕ) whe
         go false e = rw (room, after_is, e, ap (λ (t : Reply). t.0) all, ap (λ (t : Reply). t.1) all)
 
 -- ---- of a clipping
-module _ (a : Clipped) (shown : List ℕ) (first second : List Float) where
+module _ (a : Answer (Option Outline)) (shown : List ℕ) (first second : List Float) where
   pub shown_long : {r : ℕ} {shown' : List ℕ} → 2 ≤ length shown → told r [] shown' ≡ written (of_clipped a) [] shown
       → (r, shown', first, second) ≡ clipping_told (a, first, second) shown
   shown_long h e = rw (ap (λ (t : Reply). t.0) e, ap (λ (t : Reply). t.2) e, le-ltb (length shown) 2 h)
 
-pub shown_short : (a : Clipped) (shown : List ℕ) (first second : List Float) {r : ℕ} {first' second' : List Float} → length shown < 2
-    → told r [] [] ≡ written (of_clipped a) [] [] → first' ≡ hidden a first → second' ≡ hidden a second
+pub shown_short : (a : Answer (Option Outline)) (shown : List ℕ) (first second : List Float) {r : ℕ} {first' second' : List Float}
+    → length shown < 2 → told r [] [] ≡ written (of_clipped a) [] [] → first' ≡ hidden a first → second' ≡ hidden a second
     → (r, shown, first', second') ≡ clipping_told (a, first, second) shown
-shown_short Clipped.Nothing shown first second h e f s = rw (ap (λ (t : Reply). t.0) e, f, s, lt-ltb (length shown) 2 h)
-shown_short (Clipped.Outline n b) shown first second h e f s = rw (ap (λ (t : Reply). t.0) e, f, s, lt-ltb (length shown) 2 h)
-shown_short (Clipped.Refused why) shown first second h e f s = rw (ap (λ (t : Reply). t.0) e, f, s, lt-ltb (length shown) 2 h)
+shown_short (Ok None) shown first second h e f s = rw (ap (λ (t : Reply). t.0) e, f, s, lt-ltb (length shown) 2 h)
+shown_short (Ok (Some o)) shown first second h e f s = rw (ap (λ (t : Reply). t.0) e, f, s, lt-ltb (length shown) 2 h)
+shown_short (Err why) shown first second h e f s = rw (ap (λ (t : Reply). t.0) e, f, s, lt-ltb (length shown) 2 h)

@@ -4,10 +4,10 @@
 pub mod given;
 pub mod shown;
 
+use places::refusal::Refusal;
+
 ghost use Rattle.std.specs.Prelude.{◌≡◌, []};
 ghost use Rattle.places.specs.Loops.{one_if};
-ghost use Rattle.geometry.specs.declared.Surveyed.{Surveyed};
-ghost use Rattle.geometry.specs.declared.Described.{Described};
 ghost use Rattle.geometry.specs.Listed.{told, values, written, shape_number, of_number, of_truth, of_count, of_face_cut, of_place};
 ghost use Rattle.geometry.specs.Listed.{of_plane_place, of_extent, of_plane_extent, of_done, of_surveyed, of_described, of_face_plane};
 ghost use Rattle.geometry.specs.Listed.{of_clipped};
@@ -28,7 +28,7 @@ pub fn put(vs: &[f64], out: &mut [f64]) -> u8
 {
     let n = vs.len();
     if out.len() < n {
-        return 6;
+        return u8::from(Refusal::Room);
     }
     let mut i = 0;
     while i < n {
@@ -44,7 +44,7 @@ pub fn put_counts(vs: &[usize], out: &mut [usize]) -> u8
 {
     let n = vs.len();
     if out.len() < n {
-        return 6;
+        return u8::from(Refusal::Room);
     }
     let mut i = 0;
     while i < n {
@@ -60,7 +60,7 @@ pub fn put_both(vs: &[f64], ms: &[usize], out: &mut [f64], counts: &mut [usize])
     ensures { told result out.new counts.new ≡ written (values vs.now ms.now) out.old counts.old }
 {
     if out.len() < vs.len() {
-        return 6;
+        return u8::from(Refusal::Room);
     }
     let code = put_counts(ms, counts);
     if code != 0 {
@@ -70,112 +70,112 @@ pub fn put_both(vs: &[f64], ms: &[usize], out: &mut [f64], counts: &mut [usize])
 }
 
 // An answer: the refusal, or its values at the front of the list.
-pub fn put_number(a: geometry::Number, out: &mut [f64]) -> u8
+pub fn put_number(a: Result<f64, Refusal>, out: &mut [f64]) -> u8
     ensures { told result out.new [] ≡ written (of_number a) out.old [] }
 {
     match a {
-        geometry::Number::Is(x) => put(&[x], out),
-        geometry::Number::Refused(why) => why,
+        Ok(x) => put(&[x], out),
+        Err(why) => u8::from(why),
     }
 }
 
-pub fn put_truth(a: geometry::Truth, out: &mut [usize]) -> u8
+pub fn put_truth(a: Result<bool, Refusal>, out: &mut [usize]) -> u8
     ensures { told result [] out.new ≡ written (of_truth a) [] out.old }
 {
     match a {
-        geometry::Truth::Is(b) => put_counts(&[places::one_if(b)], out),
-        geometry::Truth::Refused(why) => why,
+        Ok(b) => put_counts(&[places::one_if(b)], out),
+        Err(why) => u8::from(why),
     }
 }
 
-pub fn put_count(a: geometry::Count, out: &mut [usize]) -> u8
+pub fn put_count(a: Result<usize, Refusal>, out: &mut [usize]) -> u8
     ensures { told result [] out.new ≡ written (of_count a) [] out.old }
 {
     match a {
-        geometry::Count::Is(n) => put_counts(&[n], out),
-        geometry::Count::Refused(why) => why,
+        Ok(n) => put_counts(&[n], out),
+        Err(why) => u8::from(why),
     }
 }
 
-pub fn put_face_cut(a: geometry::FaceCut, out: &mut [usize]) -> u8
+pub fn put_face_cut(a: Result<geometry::CutCounts, Refusal>, out: &mut [usize]) -> u8
     ensures { told result [] out.new ≡ written (of_face_cut a) [] out.old }
 {
     match a {
-        geometry::FaceCut::Is(c) => put_counts(&[c.triangles, c.tests], out),
-        geometry::FaceCut::Refused(why) => why,
+        Ok(c) => put_counts(&[c.triangles, c.tests], out),
+        Err(why) => u8::from(why),
     }
 }
 
-pub fn put_place(a: geometry::Place, out: &mut [f64]) -> u8
+pub fn put_place(a: Result<geometry::Point3, Refusal>, out: &mut [f64]) -> u8
     ensures { told result out.new [] ≡ written (of_place a) out.old [] }
 {
     match a {
-        geometry::Place::Is(p) => put(&[p.x, p.y, p.z], out),
-        geometry::Place::Refused(why) => why,
+        Ok(p) => put(&[p.x, p.y, p.z], out),
+        Err(why) => u8::from(why),
     }
 }
 
-pub fn put_extent(a: geometry::Extent, out: &mut [f64]) -> u8
+pub fn put_extent(a: Result<geometry::Bounds3, Refusal>, out: &mut [f64]) -> u8
     ensures { told result out.new [] ≡ written (of_extent a) out.old [] }
 {
     match a {
-        geometry::Extent::Is(b) => put(
+        Ok(b) => put(
             &[b.low.x, b.low.y, b.low.z, b.high.x, b.high.y, b.high.z],
             out,
         ),
-        geometry::Extent::Refused(why) => why,
+        Err(why) => u8::from(why),
     }
 }
 
-pub fn put_plane_place(a: geometry::PlanePlace, out: &mut [f64]) -> u8
+pub fn put_plane_place(a: Result<geometry::Point2, Refusal>, out: &mut [f64]) -> u8
     ensures { told result out.new [] ≡ written (of_plane_place a) out.old [] }
 {
     match a {
-        geometry::PlanePlace::Is(p) => put(&[p.x, p.y], out),
-        geometry::PlanePlace::Refused(why) => why,
+        Ok(p) => put(&[p.x, p.y], out),
+        Err(why) => u8::from(why),
     }
 }
 
-pub fn put_plane_extent(a: geometry::PlaneExtent, out: &mut [f64]) -> u8
+pub fn put_plane_extent(a: Result<geometry::Bounds2, Refusal>, out: &mut [f64]) -> u8
     ensures { told result out.new [] ≡ written (of_plane_extent a) out.old [] }
 {
     match a {
-        geometry::PlaneExtent::Is(b) => put(&[b.low.x, b.low.y, b.high.x, b.high.y], out),
-        geometry::PlaneExtent::Refused(why) => why,
+        Ok(b) => put(&[b.low.x, b.low.y, b.high.x, b.high.y], out),
+        Err(why) => u8::from(why),
     }
 }
 
-pub fn done_code(a: geometry::Done) -> u8
+pub fn done_code(a: Result<(), Refusal>) -> u8
     ensures { told result [] [] ≡ written (of_done a) [] [] }
 {
     match a {
-        geometry::Done::Is => 0,
-        geometry::Done::Refused(why) => why,
+        Ok(()) => 0,
+        Err(why) => u8::from(why),
     }
 }
 
 // The code of turn_faces where its count has no room: the refusal, else 6.
-pub fn untold(a: geometry::Done) -> u8
+pub fn untold(a: Result<(), Refusal>) -> u8
     ensures { result ≡ code_without_room a }
 {
     match a {
-        geometry::Done::Is => 6,
-        geometry::Done::Refused(why) => why,
+        Ok(()) => u8::from(Refusal::Room),
+        Err(why) => u8::from(why),
     }
 }
 
 // A survey goes into two lists.
-pub fn put_surveyed(a: geometry::Surveyed, counts: &mut [usize], volume: &mut [f64]) -> u8
+pub fn put_surveyed(a: Result<geometry::Findings, Refusal>, counts: &mut [usize], volume: &mut [f64]) -> u8
     ensures { told result volume.new counts.new ≡ written (of_surveyed a) volume.old counts.old }
 {
     match a {
-        geometry::Surveyed::Is(s) => put_survey(s, counts, volume),
-        geometry::Surveyed::Refused(why) => why,
+        Ok(s) => put_survey(s, counts, volume),
+        Err(why) => u8::from(why),
     }
 }
 
 fn put_survey(s: geometry::Findings, counts: &mut [usize], volume: &mut [f64]) -> u8
-    ensures { told result volume.new counts.new ≡ written (of_surveyed (Surveyed.Is s)) volume.old counts.old }
+    ensures { told result volume.new counts.new ≡ written (of_surveyed (Ok s)) volume.old counts.old }
 {
     put_both(
         &[s.volume],
@@ -198,59 +198,58 @@ fn shape_number(shape: geometry::Convexity) -> usize
 
 // A cell's description: how many vertices, corners and faces, and what is known of its shape.
 fn put_cell(c: geometry::Cell, out: &mut [usize]) -> u8
-    ensures { told result [] out.new ≡ written (of_described (Described.Is c)) [] out.old }
+    ensures { told result [] out.new ≡ written (of_described (Ok c)) [] out.old }
 {
     let shape = c.convexity;
     put_counts(&[c.vertices, c.corners, c.faces, shape_number(shape)], out)
 }
 
-pub fn put_described(a: geometry::Described, out: &mut [usize]) -> u8
+pub fn put_described(a: Result<geometry::Cell, Refusal>, out: &mut [usize]) -> u8
     ensures { told result [] out.new ≡ written (of_described a) [] out.old }
 {
     match a {
-        geometry::Described::Is(c) => put_cell(c, out),
-        geometry::Described::Refused(why) => why,
+        Ok(c) => put_cell(c, out),
+        Err(why) => u8::from(why),
     }
 }
 
 // The plane of a face: its normal, then its offset, and 1; for a face of no area 0 alone.
-pub fn put_face_plane(a: geometry::FacePlane, out: &mut [f64], area: &mut [usize]) -> u8
+pub fn put_face_plane(
+    a: Result<Option<geometry::Plane>, Refusal>,
+    out: &mut [f64],
+    area: &mut [usize],
+) -> u8
     ensures { told result out.new area.new ≡ written (of_face_plane a) out.old area.old }
 {
-    let answer = a.answer;
-    let p = a.plane;
-    match answer {
-        geometry::PlaneAnswer::Is => put_both(&[p.n[0], p.n[1], p.n[2], p.d], &[1], out, area),
-        geometry::PlaneAnswer::NoArea => put_counts(&[0], area),
-        geometry::PlaneAnswer::Refused(why) => why,
+    match a {
+        Ok(Some(p)) => put_both(&[p.n[0], p.n[1], p.n[2], p.d], &[1], out, area),
+        Ok(None) => put_counts(&[0], area),
+        Err(why) => u8::from(why),
     }
 }
 
 // The overlap of two cells: its volume, and how many faces of the first and of the second have no area.
-pub fn put_overlapped(a: geometry::Overlapped, out: &mut [f64], arealess: &mut [usize]) -> u8
+pub fn put_overlapped(a: Result<geometry::Shared, Refusal>, out: &mut [f64], arealess: &mut [usize]) -> u8
     ensures { told result out.new arealess.new ≡ written (of_overlapped a) out.old arealess.old }
 {
     match a {
-        geometry::Overlapped::Is(o) => put_both(
+        Ok(o) => put_both(
             &[o.volume],
             &[o.arealess, o.arealess2],
             out,
             arealess,
         ),
-        geometry::Overlapped::Refused(why) => why,
+        Err(why) => u8::from(why),
     }
 }
 
 // What a clipping shows: how many points are left, 0 for nothing, and 1 where they stand in the second work list.
-pub fn put_clipped(a: geometry::Clipped, out: &mut [usize]) -> u8
+pub fn put_clipped(a: Result<Option<geometry::Outline>, Refusal>, out: &mut [usize]) -> u8
     ensures { told result [] out.new ≡ written (of_clipped a) [] out.old }
 {
     match a {
-        geometry::Clipped::Nothing => put_counts(&[0, 0], out),
-        geometry::Clipped::Outline(n, in_second) => put_counts(
-            &[n, places::one_if(in_second)],
-            out,
-        ),
-        geometry::Clipped::Refused(why) => why,
+        Ok(None) => put_counts(&[0, 0], out),
+        Ok(Some(o)) => put_counts(&[o.points, places::one_if(o.in_second)], out),
+        Err(why) => u8::from(why),
     }
 }

@@ -1,27 +1,29 @@
 // What a clipping shows, and both work lists where there is no room to say so.
+use places::refusal::Refusal;
+
 ghost use Rattle.std.specs.Prelude.{◌≡◌, []};
 ghost use Rattle.geometry.specs.Listed.{told, written, of_clipped, hidden, clipping_told};
 
 // The code of a clipping where nothing can be shown: its refusal, else 6; an outline that it left is cleared away.
-fn unshown(a: geometry::Clipped, first: &mut [f64], second: &mut [f64]) -> u8
+fn unshown(a: Result<Option<geometry::Outline>, Refusal>, first: &mut [f64], second: &mut [f64]) -> u8
     ensures code { told result [] [] ≡ written (of_clipped a) [] [] }
     ensures first { first.new ≡ hidden a first.old }
     ensures second { second.new ≡ hidden a second.old }
 {
     match a {
-        geometry::Clipped::Nothing => 6,
-        geometry::Clipped::Outline(_, _) => {
+        Ok(None) => u8::from(Refusal::Room),
+        Ok(Some(_)) => {
             work_lists::settle(first, second, 0, false);
-            6
+            u8::from(Refusal::Room)
         }
-        geometry::Clipped::Refused(why) => why,
+        Err(why) => u8::from(why),
     }
 }
 
 // What a clipping shows, or, where there is no room to say it, both work lists without it.
 // Ruled out: a refusal 6 that leaves the outline in a work list; lists cleared where a check refused.
 pub fn put_shown(
-    a: geometry::Clipped,
+    a: Result<Option<geometry::Outline>, Refusal>,
     first: &mut [f64],
     second: &mut [f64],
     out: &mut [usize],

@@ -13,6 +13,10 @@ use lib.Ieee.Exact.{HasValue}
 use borrow.Author.Tests.{ltb-true, ltb-false, leb-false, eqb-true, eqb-false, not-false, ne_eqb, lt-ltb, le-ltb}
 use Rattle.places.specs.Loops.{any_of}
 use Rattle.places.specs.Lists.{Each}
+use Rattle.places.specs.Refusals.{Check, no_refusal}
+use Rattle.places.specs.declared.refusal.Refusal.{Refusal}
+use Rattle.places.specs.declared.refusal.Refusal.TheVariants.{Size, Number, Ends, Index}
+use Rattle.std.specs.Prelude.{Err}
 use Rattle.places.proofs.Stored.{length_threes}
 use Rattle.floats.proofs.Within.{Within, within_between}
 use Rattle.flat.specs.Points.{vertices_of}
@@ -22,26 +26,31 @@ use Rattle.cell.specs.Refusals.{ends_refused, index_refused, refusal_of}
 use Rattle.cell.specs.Steps.{Sound}
 
 -- ---- the first row that applies
-module _ (n : ℕ) (rows : List (ℕ × Bool)) where
+module _ (why : Refusal) (rows : List (Refusal × Bool)) where
   -- a row that applies decides
-  pub row_applies : {applies : Bool} → applies ≡ true → n ≡ first_row ((n, applies) ∷ rows)
+  pub row_applies : {applies : Bool} → applies ≡ true → Err why ≡ first_row ((why, applies) ∷ rows)
   unfolding first_row
   row_applies e = rw e
 
   -- one that does not leaves it to the rows after it
-  pub row_passed : {applies : Bool} {r : ℕ} → applies ≡ false → r ≡ first_row rows → r ≡ first_row ((n, applies) ∷ rows)
+  pub row_passed : {applies : Bool} {r : Check} → applies ≡ false → r ≡ first_row rows → r ≡ first_row ((why, applies) ∷ rows)
   unfolding first_row
-  row_passed e q = rw e q
+  row_passed e q = rw (e, q)
 
-  -- where the answer is 0, a row with another number does not apply, and the answer of the rows after it is 0
-  pub row_zero : (applies : Bool) → 1 ≤ n → first_row ((n, applies) ∷ rows) ≡ 0 → (applies ≡ false) × (first_row rows ≡ 0)
+  -- where the check passes, a row does not apply, and the rows after it pass
+  pub row_known : (applies : Bool) → first_row ((why, applies) ∷ rows) ≡ no_refusal → (applies ≡ false) × (first_row rows ≡ no_refusal)
   unfolding first_row
-  row_zero true h e = absurd (omega arith)
-  row_zero false h e = (refl, e)
+  row_known true e = absurd (cc)
+  row_known false e = (refl, e)
 
-pub no_row : 0 ≡ first_row []
+pub no_row : no_refusal ≡ first_row []
 unfolding first_row
 no_row = refl
+
+-- a test of three, whichever two are put together
+pub or_three : (a b c : Bool) → (a || b) || c ≡ a || (b || c)
+or_three true b c = refl
+or_three false b c = refl
 
 -- neither of two
 pub or_none : (a b : Bool) → a || b ≡ false → (a ≡ false) × (b ≡ false)
@@ -109,15 +118,15 @@ module _ (coords : List Float) where
   unfolding points_refused
   points_is n e = rw (e, length_threes coords)
 
-  pub not_in_threes : (length coords % 3 ≡ 0 → ⊥) → true ≡ points_refused coords
+  not_in_threes : (length coords % 3 ≡ 0 → ⊥) → true ≡ points_refused coords
   unfolding points_refused
   not_in_threes h = rw (ne_eqb (length coords % 3) 0 h)
 
   -- in threes: none, or as many as they are
-  pub no_vertex : length coords ≡ 0 → true ≡ points_refused coords
+  no_vertex : length coords ≡ 0 → true ≡ points_refused coords
   no_vertex h = rw (points_is 0 (sym h))
 
-  pub some_vertices : length coords % 3 ≡ 0 → (length coords ≡ 0 → ⊥) → ltb 768 (length coords) ≡ points_refused coords
+  some_vertices : length coords % 3 ≡ 0 → (length coords ≡ 0 → ⊥) → ltb 768 (length coords) ≡ points_refused coords
   some_vertices e h = go (ltb 768 (length coords)) refl
     where
       go : (b : Bool) → ltb 768 (length coords) ≡ b → b ≡ points_refused coords
@@ -129,6 +138,16 @@ module _ (coords : List Float) where
           let n = length coords in
           let m : n ≤ 768 = ltb-false 768 n t in
           rw (points_is n refl, e, ne_eqb (n / 3) 0 (omega arith), le-ltb 256 (n / 3) (omega arith))
+
+  -- so the tests of the number of coordinates are those of the vertices
+  pub points_by_number : let n = length coords in (not (eqb (n % 3) 0) || eqb n 0) || ltb 768 n ≡ points_refused coords
+  points_by_number = go (eqb (length coords % 3) 0) (eqb (length coords) 0) refl refl
+    where
+      go : (threes none : Bool) → eqb (length coords % 3) 0 ≡ threes → eqb (length coords) 0 ≡ none
+          → (not threes || none) || ltb 768 (length coords) ≡ points_refused coords
+      go false none e f = not_in_threes (eqb-false _ 0 e)
+      go true true e f = no_vertex (eqb-true _ 0 f)
+      go true false e f = some_vertices (eqb-true _ 0 e) (eqb-false _ 0 f)
 
 at_least_one : (n : ℕ) → eqb n 0 ≡ false → 1 ≤ n
 at_least_one n e = let h : n ≡ 0 → ⊥ = eqb-false n 0 e in omega arith
@@ -168,24 +187,24 @@ pub record Accepted (coords : List Float) (corners ends : List ℕ) (query : Lis
   pub known : index_refused (length ends) asked ≡ false
 
 module _ (coords : List Float) (corners ends : List ℕ) (query : List Float) (asked : List ℕ) where
-  -- 0 is the answer exactly where none of the rows applies
-  pub accepted : refusal_of coords corners ends query asked ≡ 0 → Accepted coords corners ends query asked
+  -- the check passes exactly where none of the rows applies
+  pub accepted : refusal_of coords corners ends query asked ≡ no_refusal → Accepted coords corners ends query asked
   unfolding refusal_of
   accepted e =
-      let one = row_zero 1 _ _ (omega arith) e in
-      let two = row_zero 2 _ _ (omega arith) one.1 in
-      let three = row_zero 3 _ _ (omega arith) two.1 in
-      let four = row_zero 4 _ _ (omega arith) three.1 in
+      let one = row_known Size _ _ e in
+      let two = row_known Number _ _ one.1 in
+      let three = row_known Ends _ _ two.1 in
+      let four = row_known Index _ _ three.1 in
       let numbers = or_none _ _ two.0 in
       let indices = or_none _ _ four.0 in
       record { size = one.0; numbers = numbers.0; queried = numbers.1; ordered = three.0; inside = indices.0; known = indices.1 }
 
-  pub accepts : Accepted coords corners ends query asked → refusal_of coords corners ends query asked ≡ 0
+  pub accepts : Accepted coords corners ends query asked → refusal_of coords corners ends query asked ≡ no_refusal
   unfolding refusal_of first_row
   accepts a = rw (a.size, a.numbers, a.queried, a.ordered, a.inside, a.known)
 
   -- ---- what is known of a cell that is not refused
-  pub sound : refusal_of coords corners ends query asked ≡ 0 → Sound coords corners ends
+  pub sound : refusal_of coords corners ends query asked ≡ no_refusal → Sound coords corners ends
   unfolding size_refused ends_refused
   sound e =
       let a = accepted e in
@@ -202,9 +221,9 @@ module _ (coords : List Float) (corners ends : List ℕ) (query : List Float) (a
         inside = all_below _ corners a.inside;
       }
 
-  pub tame : refusal_of coords corners ends query asked ≡ 0 → number_refused coords ≡ false
+  pub tame : refusal_of coords corners ends query asked ≡ no_refusal → number_refused coords ≡ false
   tame e = (accepted e).numbers
 
   -- the faces that are asked for are there
-  pub asked_known : refusal_of coords corners ends query asked ≡ 0 → Each 0 (λ k. k < length ends) asked
+  pub asked_known : refusal_of coords corners ends query asked ≡ no_refusal → Each 0 (λ k. k < length ends) asked
   asked_known e = all_below (length ends) asked (accepted e).known

@@ -1,18 +1,21 @@
--- What is refused, as the table of SCOPE 3 has it: a number and what it is refused for, and the first row that applies decides.
-use Rattle.std.specs.Prelude.{Bool, not, ◌&&◌, ◌||◌, cond, List, [], ◌∷◌, ℕ, ◌%◌, leb, ltb, eqb, length, Float}
+-- What is refused, as the table of SCOPE 3 has it: a refusal and what it is given for, and the first row that applies decides.
+use Rattle.std.specs.Prelude.{Bool, not, ◌&&◌, ◌||◌, cond, List, [], ◌∷◌, ℕ, ◌%◌, leb, ltb, eqb, length, Float, Err}
 use Rattle.std.specs.Float.{binary64}
 use Rattle.std.specs.Float.Ieee.{of_bits, le, neg}
 use Rattle.places.specs.Limits.{most_vertices, most_faces, most_corners}
 use Rattle.places.specs.Loops.{any_of}
+use Rattle.places.specs.Refusals.{Check, no_refusal}
+use Rattle.places.specs.declared.refusal.Refusal.{Refusal}
+use Rattle.places.specs.declared.refusal.Refusal.TheVariants.{Size, Number, Ends, Index}
 use Rattle.flat.specs.Points.{vertices_of}
 use Rattle.cell.specs.Faces.{faces_of, rises}
 
--- the number of the first row that applies, and 0 where none does
-unfoldable pub first_row : List (ℕ × Bool) → ℕ
-first_row [] = 0
+-- the first row that applies refuses, and where none does the check passes
+unfoldable pub first_row : List (Refusal × Bool) → Check
+first_row [] = no_refusal
 first_row (row ∷ rows) =
     let rest = first_row rows in
-    cond row.1 row.0 rest
+    cond row.1 (Err row.0) rest
 
 -- 2 ^ 40, the largest magnitude
 abbrev pub limit : Float
@@ -59,13 +62,13 @@ index_refused n cs = any_of (not_below n) cs
 unfoldable pub empty_refused : List ℕ → List ℕ → Bool
 empty_refused corners ends = any_of is_empty (faces_of corners ends)
 
--- why a cell is refused, 0 where it is not: `query` are query values, judged with the coordinates, and `asked` the numbers of faces that
+-- whether a cell passes, or why it is refused: `query` are query values, judged with the coordinates, and `asked` the numbers of faces that
 -- are asked for
-unfoldable pub refusal_of : List Float → List ℕ → List ℕ → List Float → List ℕ → ℕ
+unfoldable pub refusal_of : List Float → List ℕ → List ℕ → List Float → List ℕ → Check
 refusal_of coords corners ends query asked =
     first_row (
-    (1, size_refused coords corners ends)
-    ∷ (2, number_refused coords || number_refused query)
-    ∷ (3, ends_refused corners ends)
-    ∷ (4, index_refused (length (vertices_of coords)) corners || index_refused (length ends) asked)
+    (Size, size_refused coords corners ends)
+    ∷ (Number, number_refused coords || number_refused query)
+    ∷ (Ends, ends_refused corners ends)
+    ∷ (Index, index_refused (length (vertices_of coords)) corners || index_refused (length ends) asked)
     ∷ [])

@@ -7,6 +7,8 @@ ghost use Rattle.cell.specs.Faces.{faces_of, rises};
 ghost use Rattle.cell.specs.Refusals.{out_of_range, points_refused, size_refused, number_refused, ends_refused, index_refused};
 ghost use Rattle.cell.specs.Refusals.{empty_refused, refusal_of};
 
+use places::refusal::Refusal;
+
 // A face is shown as its own stretch of the lent corner list.
 pub fn face(corners: &[u32], start: usize, end: usize) -> &[u32]
     requires { (start ≤ end) × (end ≤ length corners.now) }
@@ -34,15 +36,14 @@ pub fn face_by_number<'a>(corners: &'a [u32], ends: &[u32], k: usize) -> &'a [u3
     face(corners, start(ends, k), places::corner(ends, k))
 }
 
+// The largest magnitude: 2^40.
+const LIMIT: f64 = 1099511627776.0;
+
 // A number that is NaN, infinite or above 2^40 in magnitude.
 fn out_of_range(x: f64) -> bool
     ensures { result ≡ out_of_range x }
 {
-    if x >= -1099511627776.0 {
-        !(x <= 1099511627776.0)
-    } else {
-        true
-    }
+    !((x >= -LIMIT) & (x <= LIMIT))
 }
 
 // Refusal 1, of points of space: coordinates not in threes, 0 or over 256 vertices.
@@ -50,74 +51,39 @@ pub fn points_refused(coords: &[f64]) -> bool
     ensures { result ≡ points_refused coords.now }
 {
     let n = coords.len();
-    if n % 3 != 0 {
-        return true;
-    }
-    if n == 0 {
-        return true;
-    }
-    n > places::limits::MOST_COORDINATES
+    (n % 3 != 0) | (n == 0) | (n > places::limits::MOST_COORDINATES)
 }
 
 // Refusal 1: that, or over 256 faces, or over 2,048 corners.
 fn size_refused(coords: &[f64], corners: &[u32], ends: &[u32]) -> bool
     ensures { result ≡ size_refused coords.now corners.now ends.now }
 {
-    if points_refused(coords) {
-        return true;
-    }
-    if ends.len() > places::limits::MOST_FACES {
-        return true;
-    }
-    corners.len() > places::limits::MOST_CORNERS
-}
-
-// Whether one of the two holds.
-// Ruled out: both asked for; the second alone.
-pub fn one_or_both(a: bool, b: bool) -> bool
-    ensures { result ≡ (a || b) }
-{
-    if a { true } else { b }
+    let faces = ends.len() > places::limits::MOST_FACES;
+    points_refused(coords) | faces | (corners.len() > places::limits::MOST_CORNERS)
 }
 
 // Refusal 2. Every number is looked at, without an exit, which is quicker where none is refused.
 pub fn number_refused(xs: &[f64]) -> bool
     ensures { result ≡ number_refused xs.now }
 {
-    let n = xs.len();
     let mut refused = false;
-    let mut i = 0;
-    while i < n {
-        refused = one_or_both(refused, out_of_range(places::num(xs, i)));
-        i += 1;
+    for &x in xs {
+        refused |= out_of_range(x);
     }
     refused
-}
-
-// The number at place i as it is stored: in 32 bits several are compared at a time, which is what the checks live by.
-// Ruled out: the number before it; its remainder by a smaller number.
-pub fn stored(cs: &[u32], i: usize) -> u32
-    requires { i < length cs.now }
-    ensures { (result ≡ get_or cs.now i 0) × (result < 4294967296) }
-{
-    cs[i]
 }
 
 // Refusal 3: the ends fall, or the last is not the corner count. Every end is looked at, without an exit.
 fn ends_refused(corners: &[u32], ends: &[u32]) -> bool
     ensures { result ≡ ends_refused corners.now ends.now }
 {
-    let n = ends.len();
     let mut fall = false;
     let mut start = 0;
-    let mut k = 0;
-    while k < n {
-        let end = stored(ends, k);
-        fall = one_or_both(fall, end < start);
+    for &end in ends {
+        fall |= end < start;
         start = end;
-        k += 1;
     }
-    one_or_both(fall, start as usize != corners.len())
+    fall | (start as usize != corners.len())
 }
 
 // Refusal 4: one of the numbers is not below n.
@@ -127,12 +93,9 @@ pub fn index_refused(n: usize, cs: &[u32]) -> bool
     ensures { result ≡ index_refused n cs.now }
 {
     let beyond = n as u32;
-    let m = cs.len();
     let mut refused = false;
-    let mut i = 0;
-    while i < m {
-        refused = one_or_both(refused, stored(cs, i) >= beyond);
-        i += 1;
+    for &c in cs {
+        refused |= c >= beyond;
     }
     refused
 }
@@ -142,42 +105,38 @@ pub fn empty_refused(corners: &[u32], ends: &[u32]) -> bool
     requires { T (rises 0 ends.now (length corners.now)) }
     ensures { result ≡ empty_refused corners.now ends.now }
 {
-    let n = ends.len();
     let mut start = 0;
-    let mut k = 0;
-    while k < n {
-        let end = places::corner(ends, k);
+    for &end in ends {
         if start == end {
             return true;
         }
         start = end;
-        k += 1;
     }
     false
 }
 
-// Why a cell is refused, 0 where it is not. Query values are judged with the coordinates; `asked` are the numbers of faces that are asked
-// for.
-pub fn refusal(coords: &[f64], corners: &[u32], ends: &[u32], query: &[f64], asked: &[u32]) -> u8
+// Whether a cell passes, or why it is refused. Query values are judged with the coordinates; `asked` are the numbers of faces that are
+// asked for.
+pub fn refusal(
+    coords: &[f64],
+    corners: &[u32],
+    ends: &[u32],
+    query: &[f64],
+    asked: &[u32],
+) -> Result<(), Refusal>
     ensures { result ≡ refusal_of coords.now corners.now ends.now query.now asked.now }
 {
     if size_refused(coords, corners, ends) {
-        return 1;
+        return Err(Refusal::Size);
     }
-    if number_refused(coords) {
-        return 2;
-    }
-    if number_refused(query) {
-        return 2;
+    if number_refused(coords) || number_refused(query) {
+        return Err(Refusal::Number);
     }
     if ends_refused(corners, ends) {
-        return 3;
+        return Err(Refusal::Ends);
     }
-    if index_refused(coords.len() / 3, corners) {
-        return 4;
+    if index_refused(coords.len() / 3, corners) || index_refused(ends.len(), asked) {
+        return Err(Refusal::Index);
     }
-    if index_refused(ends.len(), asked) {
-        return 4;
-    }
-    0
+    Ok(())
 }

@@ -7,6 +7,8 @@ use mathlib.Core.List.{List, [], ◌∷◌, map}
 use Prim.Native.Nat.{ℕ, ◌-◌, ◌<◌, ◌≤◌}
 use native.Mathlib.Omega.{arith}
 use lib.ListN.{length, get_or, take}
+use Rattle.std.specs.Prelude.{Ok, Err}
+use Rattle.geometry.specs.Answers.{Answer}
 use Rattle.places.specs.Lists.{Each}
 use Rattle.places.specs.Ring.{walk, places_below}
 use Rattle.places.specs.Stored.{in_threes, joined}
@@ -21,9 +23,7 @@ use Rattle.cut.proofs.ByPlace.{by_place, places_ring, by_place_long, by_place_le
 use Rattle.cut_check.specs.CutCheck.{IsCut}
 use Rattle.cut_check.proofs.Accepted.{accepted_area}
 use Rattle.refusals.proofs.Refusals.{Checked, check_passes}
-use Rattle.geometry.specs.declared.Truth.{Truth}
 use Rattle.geometry.specs.declared.CutCounts.{CutCounts}
-use Rattle.geometry.specs.declared.FaceCut.{FaceCut}
 use Rattle.geometry.specs.Cells.{face_numbered, triangles_answer, triangle_places_answer}
 use Rattle.geometry.specs.CheckCut.{check_cut_answer, YesForCuts}
 use Rattle.geometry.proofs.OneFace.{cut_written}
@@ -66,7 +66,7 @@ module _ (vs : List Point) (face : List ℕ) (low : 3 ≤ length face) (high : l
   unfolding cut_by_place
   ours_is_cut f = own_cut (corners_of vs face) (length face) low (by_place_left vs face (full_left vs face f))
 
-  accepted_is_full : (check_cut_answer (length face) (joined ours) ≡ Truth.Is true) ↔ Full vs face
+  accepted_is_full : (check_cut_answer (length face) (joined ours) ≡ Ok true) ↔ Full vs face
   accepted_is_full =
       let yes = yes_is (length face) (joined ours) in (
         λ e _. omega (arith, (rw our_list at (yes.0 e).1).number, by_place_long vs face),
@@ -84,10 +84,10 @@ same_triangles coords corners ends k out numbers places r s e f = (alike, looked
   where
     alike : r ≡ s
     alike =
-        let counts : FaceCut × List (List ℕ) → FaceCut = λ x. x.0 in
+        let counts : Answer CutCounts × List (List ℕ) → Answer CutCounts = λ x. x.0 in
         ap counts e ∙ sym (same_counts coords corners ends k out) ∙ sym (ap counts f)
 
-    looked : (c : CutCounts) → r ≡ FaceCut.Is c
+    looked : (c : CutCounts) → r ≡ Ok c
         → take c.triangles numbers ≡ map (ring_at (face_numbered corners ends k)) (take c.triangles places)
     looked c q =
         let vs = vertices_of coords in

@@ -2,7 +2,7 @@
 -- vertex moves by exactly that vector, and what is made of differences alone, triple products and area vectors, stays as it is.
 use mathlib.Core.Path.{◌≡◌, refl, sym, ap, ◌∙◌, subst}
 use mathlib.Core.Logic.{◌≢◌}
-use mathlib.Core.Bool.{Bool, true, false}
+use mathlib.Core.Bool.{Bool, true, false, true≢false}
 use mathlib.Core.List.{List, [], ◌∷◌}
 use Prim.Native.Nat.{ℕ, zero, suc, ◌+◌, ◌*◌, ◌/◌, ◌^◌, ◌<◌, ◌≤◌}
 use native.Mathlib.Omega.{arith}
@@ -13,6 +13,10 @@ use lib.IntN.{ℤ, pos, nat_abs, ◌-ℤ◌, ◌*ℤ◌, -ℤ-+ℤ_cancel}
 use lib.Ieee.{Float, nan, binary64, fits, of_bits}
 use lib.Ieee.Fits.{sub-fits, of_int-fits}
 use lib.Ieee.Scale.{finite}
+use Rattle.std.specs.Prelude.{Ok, Err}
+use Rattle.places.specs.declared.refusal.Refusal.TheVariants.{Size, Number, Inexact}
+use Rattle.places.specs.Refusals.{no_refusal}
+use Rattle.places.specs.declared.refusal.Refusal.TheVariants.{Inexact}
 use Rattle.places.specs.Lists.{Each}
 use Rattle.places.specs.Loops.{any_of}
 use Rattle.places.specs.Stored.{joined}
@@ -37,8 +41,7 @@ use Rattle.local.proofs.Exact.{whole_is, whole_near, whole_small, not_lost, less
 use Rattle.volume.specs.Triangles.{triangles_of}
 use Rattle.refusals.specs.Refusals.{first_refusal, list_refusal, local_refusal, cell_refusal}
 use Rattle.refusals.proofs.Refusals.{list_points, list_counted, list_numbers, local_zero}
-use Rattle.geometry.specs.Answers.{named3}
-use Rattle.geometry.specs.declared.Place.{Place}
+use Rattle.geometry.specs.Answers.{Answer, named3}
 use Rattle.geometry.specs.Cells.{closed_answer}
 use Rattle.geometry.specs.Points.{to_local_answer}
 use Rattle.demand3.specs.Demand3.{exact_point, place_of, Premises}
@@ -120,27 +123,27 @@ record Passes (coords : List Float) : Type 0 where
   numbers : number_refused coords ≡ false
   moves : move_refused (vertices_of coords) ≡ false
 
-passes : (coords : List Float) → local_refusal coords ≡ 0 → Passes coords
+passes : (coords : List Float) → local_refusal coords ≡ no_refusal → Passes coords
 passes coords e =
     let both = local_zero coords e in
     record { points = list_points coords both.0; numbers = list_numbers coords both.0; moves = both.1 }
 
-not_refused : (coords : List Float) → Passes coords → local_refusal coords ≡ 0
+not_refused : (coords : List Float) → Passes coords → local_refusal coords ≡ no_refusal
 unfolding local_refusal list_refusal first_refusal first_row
 not_refused coords p = rw (p.points, p.numbers, p.moves)
 
 -- what the entry answers for such a list, and what stands there afterwards
-answer_is : (coords : List Float) → local_refusal coords ≡ 0
-    → to_local_answer coords ≡ (Place.Is (named3 (origin_of (unmoved coords))), joined (moved coords))
+answer_is : (coords : List Float) → local_refusal coords ≡ no_refusal
+    → to_local_answer coords ≡ (Ok (named3 (origin_of (unmoved coords))), joined (moved coords))
 unfolding to_local_answer
-answer_is coords ok = rw (eq-eqb (local_refusal coords) 0 ok)
+answer_is coords ok = rw ok
 
-refused_is : (coords : List Float) → local_refusal coords ≡ 2 → to_local_answer coords ≡ (Place.Refused 2, coords)
+refused_is : (coords : List Float) → local_refusal coords ≡ Err Number → to_local_answer coords ≡ (Err Number, coords)
 unfolding to_local_answer
 refused_is coords why = rw why
 
 -- a list that passes 1 and 2 has a vertex, and the local origin is of whole numbers
-module _ (coords : List Float) (list : list_refusal coords ≡ 0) where
+module _ (coords : List Float) (list : list_refusal coords ≡ no_refusal) where
   first : 1 ≤ length (unmoved coords)
   first = (list_counted coords list).some
 
@@ -189,7 +192,7 @@ module _ (coords : List Float) (list : list_refusal coords ≡ 0) where
           moved_exactly (at (vertex_of (unmoved coords) v) k) (at (origin_of (unmoved coords)) k) (coordinate coords f64s v h k l)
           (whole_fits k l) (tame_at v h k l) (is_whole k l) d.0 d.1 d.2
 
-module _ (coords : List Float) (ok : local_refusal coords ≡ 0) where
+module _ (coords : List Float) (ok : local_refusal coords ≡ no_refusal) where
   abbrev vs : List Point
   vs = unmoved coords
 
@@ -360,12 +363,12 @@ module _ (coords : List Float) (ok : local_refusal coords ≡ 0) where
   }
 
   answered_again : F64s coords → number_refused (joined (moved coords)) ≡ false
-      → to_local_answer (joined (moved coords)) ≡ (Place.Is (named3 nowhere), joined (moved coords))
+      → to_local_answer (joined (moved coords)) ≡ (Ok (named3 nowhere), joined (moved coords))
   answered_again f64s h =
       answer_is (joined (moved coords)) (not_refused (joined (moved coords)) (passes_again f64s h))
       ∙ rw (vertices_again, still_origin f64s, moved_twice)
 
-  refused_again : number_refused (joined (moved coords)) ≡ true → local_refusal (joined (moved coords)) ≡ 2
+  refused_again : number_refused (joined (moved coords)) ≡ true → local_refusal (joined (moved coords)) ≡ Err Number
   unfolding local_refusal list_refusal first_refusal first_row
   refused_again h = rw (points_again, (passes coords ok).points, h)
 
@@ -398,28 +401,30 @@ entry_moves coords ok =
     (ap (λ r. r.0) e, ap (λ r. vertices_of r.1) e ∙ vertices_again coords ok)
 
 -- 1 and 2 are not 15
-list_low : (coords : List Float) → list_refusal coords ≢ 0 → list_refusal coords ≢ 15
+list_not : (coords : List Float) → list_refusal coords ≢ Err Inexact
 unfolding list_refusal first_row
-list_low coords n e = go (points_refused coords) (number_refused coords) e
+list_not coords e = go (points_refused coords) (number_refused coords) e
   where
-    go : (a b : Bool) → first_row ((1, a) ∷ (2, b) ∷ []) ≡ 15 → ⊥
-    go true b e = omega arith
-    go false true e = omega arith
-    go false false e = omega arith
+    go : (a b : Bool) → first_row ((Size, a) ∷ (Number, b) ∷ []) ≡ Err Inexact → ⊥
+    go true b e = cc
+    go false true e = cc
+    go false false e = cc
 
 -- the list passes 1 and 2, so the one row left decides, and its test says yes exactly where not every difference is an f64
 pub fifteen : Fifteen
 unfolding local_refusal first_row
 fifteen coords f64s =
-    let rows = second (list_refusal coords) (first_row ((15, move_refused (unmoved coords)) ∷ [])) 15 (list_low coords) in (
+    let last = first_row ((Inexact, move_refused (unmoved coords)) ∷ []) in
+    let rows = second (list_refusal coords) last (Err Inexact) (λ _. list_not coords) in (
       λ e. ((rows.0 e).0, λ all. behind (move_refused (unmoved coords)) (rows.0 e).1 (none_behind coords (rows.0 e).0 f64s all)),
       λ p. rows.1 (p.0, stays (move_refused (unmoved coords)) (λ e. p.1 (all_exact coords p.0 e))),
     )
   where
-    behind : (b : Bool) → first_row ((15, b) ∷ []) ≡ 15 → b ≡ false → ⊥
-    behind b e f = absurd (omega (arith, sym e ∙ ap (λ c. first_row ((15, c) ∷ [])) f))
+    behind : (b : Bool) → first_row ((Inexact, b) ∷ []) ≡ Err Inexact → b ≡ false → ⊥
+    behind true e f = true≢false f
+    behind false e f = cc
 
-    stays : (b : Bool) → (b ≡ false → ⊥) → first_row ((15, b) ∷ []) ≡ 15
+    stays : (b : Bool) → (b ≡ false → ⊥) → first_row ((Inexact, b) ∷ []) ≡ Err Inexact
     stays true n = refl
     stays false n = absurd (n refl)
 

@@ -10,6 +10,9 @@ use borrow.Author.Tests.{eqb-true, eq-eqb}
 use lib.Dec.{T, eqb, ltb}
 use lib.ListN.{length}
 use lib.Ieee.{Float}
+use Rattle.std.specs.Prelude.{Ok, Err}
+use Rattle.places.specs.Refusals.{Check, no_refusal}
+use Rattle.places.specs.declared.refusal.Refusal.{Refusal}
 use Rattle.places.specs.Lists.{Each}
 use Rattle.places.specs.Stored.{joined}
 use Rattle.places.proofs.Lists.{each_nil, each_cons, each_head, each_tail}
@@ -29,8 +32,7 @@ use Rattle.cell.proofs.Refusals.{sound}
 use Rattle.facing.proofs.Reversed.{joined_faces, length_reversed, faces_reversed, accepted_reversed}
 use Rattle.volume.specs.Triangles.{triangles_of}
 use Rattle.refusals.specs.Refusals.{cell_refusal, turn_faces_refusal}
-use Rattle.geometry.specs.declared.Count.{Count}
-use Rattle.geometry.specs.Answers.{answered}
+use Rattle.geometry.specs.Answers.{Answer, answered}
 use Rattle.geometry.specs.TurnFaces.{TurnFacesGives}
 use Rattle.geometry.specs.Listed.{Reply, told, written, of_count}
 use Rattle.demand3.specs.Demand3.{Premises, place_of}
@@ -40,48 +42,34 @@ use Rattle.demand3.proofs.Demand3.{sums}
 use Rattle.demand3.proofs.Refused.{refuses}
 
 -- ---- what an answer tells
--- a count, or the refusal
-abbrev count_or : ℕ → ℕ → Count
-count_or why n = answered why (Count.Is n) Count.Refused
+told_refused : (check : Check) (w : Refusal) (m : ℕ) → Err w ≡ answered check m → Err w ≡ check
+told_refused (Ok _) w m e = absurd cc
+told_refused (Err why) w m e = let same : w ≡ why = cc in rw same
 
-told_refused : (why w m : ℕ) → Count.Refused w ≡ count_or why m → (w ≡ why) × (eqb why 0 ≡ false)
-told_refused why w m e = go (eqb why 0) refl e
-  where
-    go : (b : Bool) → eqb why 0 ≡ b → Count.Refused w ≡ cond b (Count.Is m) (Count.Refused why)
-        → (w ≡ why) × (eqb why 0 ≡ false)
-    go true q e = (cc, cc)
-    go false q e = (cc, q)
-
-told_is : (why n m : ℕ) → Count.Is n ≡ count_or why m → (why ≡ 0) × (n ≡ m)
-told_is why n m e = go (eqb why 0) refl e
-  where
-    go : (b : Bool) → eqb why 0 ≡ b → Count.Is n ≡ cond b (Count.Is m) (Count.Refused why) → (why ≡ 0) × (n ≡ m)
-    go true q e = (eqb-true why 0 q, cc)
-    go false q e = (cc, cc)
+told_is : (check : Check) (n m : ℕ) → Ok n ≡ answered check m → (check ≡ no_refusal) × (n ≡ m)
+told_is (Ok _) n m e = (refl, cc)
+told_is (Err why) n m e = absurd cc
 
 -- where counts are equal unless the call is refused, so are the answers
-same_count : (why n m : ℕ) → (why ≡ 0 → n ≡ m) → count_or why n ≡ count_or why m
-same_count why n m h = go (eqb why 0) refl
-  where
-    go : (b : Bool) → eqb why 0 ≡ b → cond b (Count.Is n) (Count.Refused why) ≡ cond b (Count.Is m) (Count.Refused why)
-    go true q = ap (λ k. Count.Is k) (h (eqb-true why 0 q))
-    go false q = refl
+same_count : (check : Check) (n m : ℕ) → (check ≡ no_refusal → n ≡ m) → answered check n ≡ answered check m
+same_count (Ok _) n m h = rw (h refl)
+same_count (Err why) n m h = refl
 
 -- ---- the cell
 module _ (coords : List Float) (corners ends : List ℕ) where
-  abbrev why : ℕ
+  abbrev why : Check
   why = turn_faces_refusal coords corners ends
 
   abbrev fs : List (List ℕ)
   fs = faces_of corners ends
 
-  ordered : cell_refusal coords corners ends ≡ 0 → T (rises 0 ends (length corners))
+  ordered : cell_refusal coords corners ends ≡ no_refusal → T (rises 0 ends (length corners))
   ordered e = (sound coords corners ends [] [] e).ordered
 
   -- ---- one outcome: the choice is unique where the call is not refused, and else nothing depends on it
   pub one : OneOutcome coords corners ends
   one r r' after after' t u =
-      let twice : why ≡ 0 → Twice fs = λ z. ((refuses coords corners ends).none.0 z).1.twice in
+      let twice : why ≡ no_refusal → Twice fs = λ z. ((refuses coords corners ends).none.0 z).1.twice in
       let both = one_outcome why fs t.choice u.choice corners after after' twice t.reversed u.reversed in
       let many = rw (length_faces corners ends) at both.1 in
       (t.answer ∙ same_count why _ _ many ∙ sym u.answer, both.0)
@@ -106,20 +94,20 @@ module _ (coords : List Float) (corners ends : List ℕ) where
   pub leaves : RefusedLeaves coords corners ends
   leaves w after t =
       let told = told_refused why w _ t.answer in
-      (told.0, rw told.1 at t.reversed.list)
+      (told, rw (← told) at t.reversed.list)
 
   -- ---- success
-  module _ (n : ℕ) (after : List ℕ) (t : TurnFacesGives coords corners ends (Count.Is n) after) where
-    passed : (why ≡ 0) × (n ≡ how_many t.choice (length ends))
+  module _ (n : ℕ) (after : List ℕ) (t : TurnFacesGives coords corners ends (Ok n) after) where
+    passed : (why ≡ no_refusal) × (n ≡ how_many t.choice (length ends))
     passed = told_is why n _ t.answer
 
     made : Made fs t.choice
     made = t.reversed.made passed.0
 
     list : after ≡ joined (reversed_by t.choice fs)
-    list = rw (eq-eqb why 0 passed.0) at t.reversed.list
+    list = rw passed.0 at t.reversed.list
 
-    cell : cell_refusal coords corners ends ≡ 0
+    cell : cell_refusal coords corners ends ≡ no_refusal
     cell = ((refuses coords corners ends).none.0 passed.0).0
 
     fit : Fit fs
@@ -150,21 +138,21 @@ module _ (coords : List Float) (corners ends : List ℕ) where
 
   -- ---- a closed cell: the choice that reverses nothing is allowed, and the outcome is one
   pub closed_already : ClosedAlready coords corners ends
-  closed_already cell fit closed r after t = one r (Count.Is 0) after corners t still
+  closed_already cell fit closed r after t = one r (Ok 0) after corners t still
     where
       is_closed : Closed fs
       is_closed = (closed_test fs).0 closed
 
-      zero_why : why ≡ 0
-      zero_why = (refuses coords corners ends).none.1 (cell, fit, record { choice = λ k. false; closes = rw (nothing_faces fs) is_closed })
+      none_refuses : why ≡ no_refusal
+      none_refuses = (refuses coords corners ends).none.1 (cell, fit, record { choice = λ k. false; closes = rw (nothing_faces fs) is_closed })
 
-      still : TurnFacesGives coords corners ends (Count.Is 0) corners
+      still : TurnFacesGives coords corners ends (Ok 0) corners
       still = record {
         choice = λ k. false;
-        answer = rw (eq-eqb why 0 zero_why, nothing_many (length ends));
+        answer = rw (none_refuses, nothing_many (length ends));
         reversed = record {
           made = λ z. already fs is_closed;
-          list = rw (eq-eqb why 0 zero_why, nothing_faces fs, joined_faces corners ends (ordered cell));
+          list = rw (none_refuses, nothing_faces fs, joined_faces corners ends (ordered cell));
         };
       }
 

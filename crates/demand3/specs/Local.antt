@@ -3,6 +3,9 @@
 use Rattle.std.specs.Prelude.{◌≡◌, ◌↔◌, true, false, List, [], ℕ, ◌^◌, ◌<◌, T, length, ℤ, pos, nat_abs, ◌-ℤ◌, ◌*ℤ◌, Float}
 use Rattle.std.specs.Float.{nan, binary64}
 use Rattle.std.specs.Float.Ieee.{fits}
+use Rattle.std.specs.Prelude.{Ok, Err}
+use Rattle.places.specs.Refusals.{no_refusal}
+use Rattle.places.specs.declared.refusal.Refusal.TheVariants.{Number, Inexact}
 use Rattle.places.specs.Lists.{Each}
 use Rattle.floats.specs.F64.{zero64}
 use Rattle.exact.specs.Scaled.{exact_of}
@@ -13,8 +16,7 @@ use Rattle.cell.specs.Refusals.{number_refused}
 use Rattle.local.specs.Local.{origin_of, moved_by}
 use Rattle.volume.specs.Triangles.{triangles_of}
 use Rattle.refusals.specs.Refusals.{list_refusal, local_refusal}
-use Rattle.geometry.specs.Answers.{named3}
-use Rattle.geometry.specs.declared.Place.{Place}
+use Rattle.geometry.specs.Answers.{Answer, named3}
 use Rattle.geometry.specs.Cells.{closed_answer}
 use Rattle.geometry.specs.Points.{to_local_answer}
 use Rattle.demand3.specs.Demand3.{exact_point, place_of, Premises}
@@ -67,32 +69,33 @@ pub record Moves (coords : List Float) : Type 0 where
 
 -- every list that `to_local` moves is moved so
 abbrev pub ToLocalMoves : Type 0
-ToLocalMoves = (coords : List Float) → F64s coords → local_refusal coords ≡ 0 → Moves coords
+ToLocalMoves = (coords : List Float) → F64s coords → local_refusal coords ≡ no_refusal → Moves coords
 
 -- ---- the same of the entry
 -- it answers that vector, and the list that it leaves holds the moved vertices
 abbrev pub EntryMoves : Type 0
 EntryMoves =
-    (coords : List Float) → local_refusal coords ≡ 0
-    → ((to_local_answer coords).0 ≡ Place.Is (named3 (origin_of (unmoved coords))))
+    (coords : List Float) → local_refusal coords ≡ no_refusal
+    → ((to_local_answer coords).0 ≡ Ok (named3 (origin_of (unmoved coords))))
     × (vertices_of (to_local_answer coords).1 ≡ moved coords)
 
 -- a second call answers 0, 0, 0 and leaves the list, unless the cell is so wide that a moved coordinate is beyond 2 ^ 40
 abbrev pub MovedTwice : Type 0
 MovedTwice =
-    (coords : List Float) → F64s coords → local_refusal coords ≡ 0 → let list = (to_local_answer coords).1 in number_refused list ≡ false
-    → to_local_answer list ≡ (Place.Is (named3 (point_by 3 (λ k. zero64))), list)
+    (coords : List Float) → F64s coords → local_refusal coords ≡ no_refusal
+    → let list = (to_local_answer coords).1 in number_refused list ≡ false
+    → to_local_answer list ≡ (Ok (named3 (point_by 3 (λ k. zero64))), list)
 
 -- in that case it refuses the moved list 2, and leaves it
 abbrev pub MovedBeyond : Type 0
 MovedBeyond =
-    (coords : List Float) → local_refusal coords ≡ 0 → let list = (to_local_answer coords).1 in number_refused list ≡ true
-    → to_local_answer list ≡ (Place.Refused 2, list)
+    (coords : List Float) → local_refusal coords ≡ no_refusal → let list = (to_local_answer coords).1 in number_refused list ≡ true
+    → to_local_answer list ≡ (Err Number, list)
 
 -- closedness is answered alike, with the same exception
 abbrev pub ClosedAlike : Type 0
 ClosedAlike =
-    (coords : List Float) (corners ends : List ℕ) → local_refusal coords ≡ 0
+    (coords : List Float) (corners ends : List ℕ) → local_refusal coords ≡ no_refusal
     → let list = (to_local_answer coords).1 in number_refused list ≡ false
     → closed_answer list corners ends ≡ closed_answer coords corners ends
 
@@ -105,4 +108,6 @@ pub record AllExact (coords : List Float) : Type 0 where
 
 -- the list is refused 15 exactly where it passes 1 and 2 and not every difference is an f64
 abbrev pub Fifteen : Type 0
-Fifteen = (coords : List Float) → F64s coords → (local_refusal coords ≡ 15) ↔ ((list_refusal coords ≡ 0) × (AllExact coords → ⊥))
+Fifteen =
+    (coords : List Float) → F64s coords → (local_refusal coords ≡ Err Inexact)
+    ↔ ((list_refusal coords ≡ no_refusal) × (AllExact coords → ⊥))

@@ -1,8 +1,13 @@
 -- Request 3, 'Turn the backward faces', in the customer's words: what follows for every cell from the promise of turn_faces,
 -- `TurnFacesGives`.
 -- `TurnFacesGives coords corners ends r after` says: on the cell with these lists it answers r, and the corner list is `after` afterwards.
--- The answer is `Count.Is n` where n faces were reversed, and `Count.Refused why` where the call is refused.
+-- The answer is `Ok n` where n faces were reversed, and `Err why` where the call is refused.
 use Rattle.std.specs.Prelude.{◌≡◌, ◌↔◌, ◌≢◌, ◌⊎◌, Bool, true, false, not, List, [], ℕ, length, get_or, neg_ℤ, Float}
+use Rattle.std.specs.Prelude.{Ok, Err}
+use Rattle.geometry.specs.Answers.{Answer}
+use Rattle.places.specs.Refusals.{no_refusal}
+use Rattle.places.specs.declared.refusal.Refusal.{Refusal}
+use Rattle.places.specs.declared.refusal.Refusal.TheVariants.{Sides, Choice}
 use Rattle.places.specs.Lists.{Each}
 use Rattle.exact.specs.Sides.{Closed, closed_of}
 use Rattle.exact.specs.Space.{V3, triples}
@@ -11,7 +16,6 @@ use Rattle.flat.specs.Points.{Point, vertices_of}
 use Rattle.cell.specs.Faces.{faces_of}
 use Rattle.volume.specs.Triangles.{triangles_of}
 use Rattle.refusals.specs.Refusals.{cell_refusal, turn_faces_refusal}
-use Rattle.geometry.specs.declared.Count.{Count}
 use Rattle.geometry.specs.TurnFaces.{TurnFacesGives}
 use Rattle.geometry.specs.Listed.{TurnFacesTold}
 use Rattle.demand3.specs.Demand3.{Full, place_of, Sums}
@@ -20,7 +24,7 @@ use Rattle.demand3.specs.Demand3.{Full, place_of, Sums}
 -- The promise allows one outcome: any two answers that it allows are equal, and so are the corner lists afterwards.
 abbrev pub OneOutcome : List Float → List ℕ → List ℕ → Type 0
 OneOutcome coords corners ends =
-    (r r' : Count) (after after' : List ℕ)
+    (r r' : Answer ℕ) (after after' : List ℕ)
     → TurnFacesGives coords corners ends r after → TurnFacesGives coords corners ends r' after' → (r ≡ r') × (after ≡ after')
 
 -- The same under its C name: the code, the corner list and the list for the count are fixed.
@@ -36,28 +40,30 @@ pub record Closing (fs : List (List ℕ)) : Type 0 where
   pub choice : ℕ → Bool
   pub closes : Closed (reversed_by choice fs)
 
--- What the number of the refusal says, and in which order.
+-- What the refusal says, and in which order.
 pub record Refuses (coords : List Float) (corners ends : List ℕ) : Type 0 where
   -- A cell that is refused 1 to 4, as every entry on a cell refuses it, is refused with that number; 5 is not given.
-  pub first : cell_refusal coords corners ends ≢ 0 → turn_faces_refusal coords corners ends ≡ cell_refusal coords corners ends
+  pub first : cell_refusal coords corners ends ≢ no_refusal → turn_faces_refusal coords corners ends ≡ cell_refusal coords corners ends
   -- 11 says exactly that the cell is not refused 1 to 4, and that a condition fails, on sides or on doubled vertices.
-  pub eleven : (turn_faces_refusal coords corners ends ≡ 11) ↔ ((cell_refusal coords corners ends ≡ 0) × (Fit (faces_of corners ends) → ⊥))
+  pub eleven :
+      (turn_faces_refusal coords corners ends ≡ Err Sides)
+      ↔ ((cell_refusal coords corners ends ≡ no_refusal) × (Fit (faces_of corners ends) → ⊥))
   -- 12 says exactly that the cell is not refused 1 to 4, that both conditions hold, and that no choice of reversals at all closes it.
   pub twelve :
-      (turn_faces_refusal coords corners ends ≡ 12)
-      ↔ ((cell_refusal coords corners ends ≡ 0)
+      (turn_faces_refusal coords corners ends ≡ Err Choice)
+      ↔ ((cell_refusal coords corners ends ≡ no_refusal)
       × Fit (faces_of corners ends)
       × ((choice : ℕ → Bool) → Closed (reversed_by choice (faces_of corners ends)) → ⊥))
-  -- 0, no refusal, says exactly that the cell is not refused 1 to 4, that both conditions hold, and that a choice of reversals closes it.
+  -- No refusal says exactly that the cell is not refused 1 to 4, that both conditions hold, and that a choice of reversals closes it.
   pub none :
-      (turn_faces_refusal coords corners ends ≡ 0)
-      ↔ ((cell_refusal coords corners ends ≡ 0) × Fit (faces_of corners ends) × Closing (faces_of corners ends))
+      (turn_faces_refusal coords corners ends ≡ no_refusal)
+      ↔ ((cell_refusal coords corners ends ≡ no_refusal) × Fit (faces_of corners ends) × Closing (faces_of corners ends))
 
--- A refused call answers the number of its refusal, and the corner list is as it was.
+-- A refused call answers its refusal, and the corner list is as it was.
 abbrev pub RefusedLeaves : List Float → List ℕ → List ℕ → Type 0
 RefusedLeaves coords corners ends =
-    (why : ℕ) (after : List ℕ)
-    → TurnFacesGives coords corners ends (Count.Refused why) after → (why ≡ turn_faces_refusal coords corners ends) × (after ≡ corners)
+    (why : Refusal) (after : List ℕ)
+    → TurnFacesGives coords corners ends (Err why) after → (Err why ≡ turn_faces_refusal coords corners ends) × (after ≡ corners)
 
 -- ---- success
 -- What holds where the answer is the count n.
@@ -65,7 +71,7 @@ pub record Success (coords : List Float) (corners ends : List ℕ) (n : ℕ) (af
   -- The turned cell is closed, by the definition by which `closed` answers yes.
   pub closed : closed_of (faces_of after ends) ≡ true
   -- The turned cell is not refused 1 to 4.
-  pub accepted : cell_refusal coords after ends ≡ 0
+  pub accepted : cell_refusal coords after ends ≡ no_refusal
   -- The turned cell has as many corners as the cell before.
   pub corners_kept : length after ≡ length corners
   -- Which faces were reversed is a yes or no for each face number.
@@ -80,26 +86,26 @@ pub record Success (coords : List Float) (corners ends : List ℕ) (n : ℕ) (af
 -- Where the answer is a count, all of this is so.
 abbrev pub Succeeds : List Float → List ℕ → List ℕ → Type 0
 Succeeds coords corners ends =
-    (n : ℕ) (after : List ℕ) → TurnFacesGives coords corners ends (Count.Is n) after → Success coords corners ends n after
+    (n : ℕ) (after : List ℕ) → TurnFacesGives coords corners ends (Ok n) after → Success coords corners ends n after
 
 -- A cell that is not refused 1 to 4, meets both conditions and is closed already is answered 0, and its corner list is as it was.
 abbrev pub ClosedAlready : List Float → List ℕ → List ℕ → Type 0
 ClosedAlready coords corners ends =
-    cell_refusal coords corners ends ≡ 0 → Fit (faces_of corners ends) → closed_of (faces_of corners ends) ≡ true
-    → (r : Count) (after : List ℕ) → TurnFacesGives coords corners ends r after → (r ≡ Count.Is 0) × (after ≡ corners)
+    cell_refusal coords corners ends ≡ no_refusal → Fit (faces_of corners ends) → closed_of (faces_of corners ends) ≡ true
+    → (r : Answer ℕ) (after : List ℕ) → TurnFacesGives coords corners ends r after → (r ≡ Ok 0) × (after ≡ corners)
 
 -- Turning twice is turning once: on a turned cell the answer is 0, and the corner list stays as it is.
 abbrev pub TwiceIsOnce : List Float → List ℕ → List ℕ → Type 0
 TwiceIsOnce coords corners ends =
-    (n : ℕ) (after : List ℕ) → TurnFacesGives coords corners ends (Count.Is n) after
-    → (r : Count) (again : List ℕ) → TurnFacesGives coords after ends r again → (r ≡ Count.Is 0) × (again ≡ after)
+    (n : ℕ) (after : List ℕ) → TurnFacesGives coords corners ends (Ok n) after
+    → (r : Answer ℕ) (again : List ℕ) → TurnFacesGives coords after ends r again → (r ≡ Ok 0) × (again ≡ after)
 
 -- ---- demand 3 on a turned cell
 -- On a turned cell demand 3 needs only full cuts: where every face of 3 or more corners gives its full n − 2 triangles, what the
 -- second sentence concludes of them holds.
 abbrev pub OnlyFullCuts : List Float → List ℕ → List ℕ → Type 0
 OnlyFullCuts coords corners ends =
-    (n : ℕ) (after : List ℕ) → TurnFacesGives coords corners ends (Count.Is n) after
+    (n : ℕ) (after : List ℕ) → TurnFacesGives coords corners ends (Ok n) after
     → Each [] (Full (vertices_of coords)) (faces_of after ends) → Sums (vertices_of coords) (faces_of after ends)
 
 -- ---- the two ways to close a group

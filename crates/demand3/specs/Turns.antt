@@ -3,6 +3,7 @@
 -- many tests.
 use Rattle.std.specs.Prelude.{◌≡◌, Bool, false, not, cond, List, [], ℕ, ◌-◌, ◌<◌, ltb, length, get_or, Float}
 use Rattle.std.specs.Float.Ieee.{lt, is_nan}
+use Rattle.places.specs.Refusals.{no_refusal}
 use Rattle.places.specs.Loops.{first_place}
 use Rattle.places.specs.Lists.{Each}
 use Rattle.places.specs.Ring.{before, after}
@@ -67,5 +68,5 @@ SameCuts coords = number_refused coords ≡ false → (face : List ℕ) → Insi
 -- every face of a cell that is not refused is cut alike, whatever query points and faces are asked about
 abbrev pub SameCellCuts : List Float → List ℕ → List ℕ → Type 0
 SameCellCuts coords corners ends =
-    (query : List Float) (asked : List ℕ) → refusal_of coords corners ends query asked ≡ 0
+    (query : List Float) (asked : List ℕ) → refusal_of coords corners ends query asked ≡ no_refusal
     → Each [] (SameCut (vertices_of coords)) (faces_of corners ends)

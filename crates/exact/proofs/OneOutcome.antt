@@ -12,23 +12,24 @@ use borrow.Author.Tests.{eqb-true}
 use Rattle.places.specs.Stored.{joined}
 use Rattle.places.proofs.Reversal.{reverse_at}
 use Rattle.exact.specs.Sides.{Closed}
+use Rattle.std.specs.Prelude.{Ok, Err, is_ok}
+use Rattle.places.specs.Refusals.{Check, no_refusal}
 use Rattle.exact.specs.Facing.{face_by, reversed_by, how_many, Twice, Single, Fit, Group, Made, Reversed}
 use Rattle.exact.proofs.Reversed.{occurs_by, face_by_lem}
 use Rattle.exact.proofs.Forced.{differ, differ_tells, over_group, unique, same_choice}
 
 -- ---- one outcome
-pub one_outcome : (why : ℕ) (fs : List (List ℕ)) (c d : ℕ → Bool) (before after after' : List ℕ) → (why ≡ 0 → Twice fs)
-    → Reversed why fs c before after → Reversed why fs d before after'
-    → (after ≡ after') × (why ≡ 0 → how_many c (length fs) ≡ how_many d (length fs))
-one_outcome why fs c d before after after' tw t u =
-    (t.list ∙ go (eqb why 0) refl ∙ sym u.list, λ z. (same z).1)
+pub one_outcome : (check : Check) (fs : List (List ℕ)) (c d : ℕ → Bool) (before after after' : List ℕ) → (check ≡ no_refusal → Twice fs)
+    → Reversed check fs c before after → Reversed check fs d before after'
+    → (after ≡ after') × (check ≡ no_refusal → how_many c (length fs) ≡ how_many d (length fs))
+one_outcome check fs c d before after after' tw t u = (t.list ∙ go check refl ∙ sym u.list, λ z. (same z).1)
   where
-    same : why ≡ 0 → (reversed_by c fs ≡ reversed_by d fs) × (how_many c (length fs) ≡ how_many d (length fs))
+    same : check ≡ no_refusal → (reversed_by c fs ≡ reversed_by d fs) × (how_many c (length fs) ≡ how_many d (length fs))
     same z = same_choice fs (length fs) c d (unique fs (tw z) c d (t.made z) (u.made z))
 
-    go : (b : Bool) → eqb why 0 ≡ b → cond b (joined (reversed_by c fs)) before ≡ cond b (joined (reversed_by d fs)) before
-    go true e = ap (λ x. joined x) (same (eqb-true why 0 e)).0
-    go false e = refl
+    go : (r : Check) → check ≡ r → cond (is_ok r) (joined (reversed_by c fs)) before ≡ cond (is_ok r) (joined (reversed_by d fs)) before
+    go (Ok _) e = ap (λ x. joined x) (same e).0
+    go (Err why) e = refl
 
 -- ---- the choice that reverses nothing
 pub nothing_faces : (fs : List (List ℕ)) → reversed_by (λ k. false) fs ≡ fs

@@ -1,7 +1,8 @@
 -- Request 3, 'Turn the backward faces', sentence by sentence: some faces of a cell are reversed so that it becomes closed.
 -- fs are the faces of the cell, each the list of its corners' vertex numbers.
-use Rattle.std.specs.Prelude.{◌≡◌, ◌≢◌, Bool, true, false, not, ◌&&◌, ◌||◌, cond, List, [], ◌∷◌, ◌++◌, map, reverse, ℕ, zero, suc, ◌+◌}
+use Rattle.std.specs.Prelude.{◌≡◌, ◌≢◌, Bool, true, false, not, ◌&&◌, ◌||◌, cond, List, [], ◌∷◌, ◌++◌, map, reverse, ℕ, zero, suc, ◌+◌, is_ok}
 use Rattle.std.specs.Prelude.{◌<◌, eqb, length, get_or}
+use Rattle.places.specs.Refusals.{Check, no_refusal}
 use Rattle.places.specs.Loops.{any_of, one_if}
 use Rattle.places.specs.Ring.{sides}
 use Rattle.places.specs.Stored.{joined}
@@ -74,12 +75,12 @@ pub record Made (fs : List (List ℕ)) (choice : ℕ → Bool) : Type 0 where
 
 -- ---- 'The corner list changes only in the reversed stretches'; refusals 'leave the corner list unchanged'.
 
--- what stands in the corner list before and after; `why` is the number of the refusal, 0 for none, and then the choice is the one made.
+-- what stands in the corner list before and after; where the check finds no refusal the choice is the one made.
 -- The answer is in geometry/specs/TurnFaces.antt: how many faces the choice reverses, or the refusal.
-pub record Reversed (why : ℕ) (fs : List (List ℕ)) (choice : ℕ → Bool) (before after : List ℕ) : Type 0 where
-  pub made : why ≡ 0 → Made fs choice
+pub record Reversed (check : Check) (fs : List (List ℕ)) (choice : ℕ → Bool) (before after : List ℕ) : Type 0 where
+  pub made : check ≡ no_refusal → Made fs choice
   -- the faces by the choice, one after the other; on every refusal what stood there before
-  pub list : after ≡ cond (eqb why 0) (joined (reversed_by choice fs)) before
+  pub list : after ≡ cond (is_ok check) (joined (reversed_by choice fs)) before
 
 -- ---- 'Refusals: 11 when either condition, on sides or on doubled vertices, fails': the failure as a test.
 -- proofs/Conditions.antt shows that it says yes exactly where `Fit` fails.

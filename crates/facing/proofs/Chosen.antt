@@ -14,6 +14,9 @@ use Rattle.cell.specs.Faces.{faces_of}
 use Rattle.cell.specs.Refusals.{first_row}
 use Rattle.side_table.specs.Numbers.{Known, Numbered, entry_of}
 use Rattle.shared_sides.specs.Steps.{Mates}
+use Rattle.std.specs.Prelude.{Err}
+use Rattle.places.specs.Refusals.{no_refusal}
+use Rattle.places.specs.declared.refusal.Refusal.TheVariants.{Sides, Choice}
 use Rattle.facing.specs.Refused.{reversal_refusal}
 use Rattle.facing.specs.Steps.{code_choice, Ground, Whole, clash_faces, Chosen}
 use Rattle.facing.proofs.Going.{going_made, closes_if}
@@ -27,9 +30,9 @@ pub passed : (r b : Bool) → r ≡ not b → r ≡ true → b ≡ false
 passed r b e t = not-true b (sym e ∙ t)
 
 -- ---- a condition fails
-pub chosen_unfit : (fs : List (List ℕ)) (t : List ℕ) → unfit fs ≡ true → Chosen fs t 11
+pub chosen_unfit : (fs : List (List ℕ)) (t : List ℕ) → unfit fs ≡ true → Chosen fs t (Err Sides)
 unfolding reversal_refusal first_row
-chosen_unfit fs t e = record { why = rw e; made = λ z. absurd (omega arith) }
+chosen_unfit fs t e = record { why = rw e; made = λ z. absurd (cc) }
 
 -- ---- both conditions hold
 pub grounded : {number table corners ends : List ℕ} {k : ℕ} → Numbered number k corners ends → k * k ≤ length table → length ends ≤ 256
@@ -43,14 +46,14 @@ module _ {number table corners ends t : List ℕ} {k : ℕ} (ground : Ground num
   abbrev fs : List (List ℕ)
   fs = faces_of corners ends
 
-  pub chosen_none : {r : Bool} → r ≡ clash_faces (entry_of number k) table t fs → r ≡ true → Chosen fs t 12
+  pub chosen_none : {r : Bool} → r ≡ clash_faces (entry_of number k) table t fs → r ≡ true → Chosen fs t (Err Choice)
   unfolding reversal_refusal first_row
-  chosen_none {r} told e = record { why = rw (u, (unclosable_is fs).1 no_choice); made = λ z. absurd (omega arith) }
+  chosen_none {r} told e = record { why = rw (u, (unclosable_is fs).1 no_choice); made = λ z. absurd (cc) }
     where
       no_choice : (d : ℕ → Bool) → Closed (reversed_by d fs) → ⊥
       no_choice d h = true≢false (sym e ∙ told ∙ closed_clash ground t (closes_if fs t w.going w.all d h))
 
-  pub chosen_made : {r : Bool} → r ≡ clash_faces (entry_of number k) table t fs → r ≡ false → Chosen fs t 0
+  pub chosen_made : {r : Bool} → r ≡ clash_faces (entry_of number k) table t fs → r ≡ false → Chosen fs t no_refusal
   unfolding reversal_refusal first_row
   chosen_made {r} told e =
       let h : Closed (reversed_by (code_choice t) fs) = clash_closed ground t (sym told ∙ e) in

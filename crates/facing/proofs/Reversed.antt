@@ -11,6 +11,7 @@ use lib.ListN.{length, get_or, take, drop, length-append, length-reverse, take-a
 use lib.Seq.{slice, length-slice, length-take-le, take_at, drop_at, drop-append-le}
 use lib.Ieee.{Float}
 use borrow.Author.Tests.{not-false}
+use Rattle.places.specs.Refusals.{no_refusal}
 use Rattle.places.specs.Lists.{Each}
 use Rattle.places.specs.Stored.{joined}
 use Rattle.places.proofs.Lists.{each_nil, each_append, each_slice}
@@ -110,7 +111,8 @@ each_reversed choice c es h = each_from c h choice 0 es
 
 -- a cell that is not refused is not refused with the turned list
 pub accepted_reversed : (choice : ℕ → Bool) (coords : List Float) (c es : List ℕ) (query : List Float) (asked : List ℕ)
-    → refusal_of coords c es query asked ≡ 0 → refusal_of coords (joined (reversed_by choice (faces_of c es))) es query asked ≡ 0
+    → refusal_of coords c es query asked ≡ no_refusal
+    → refusal_of coords (joined (reversed_by choice (faces_of c es))) es query asked ≡ no_refusal
 unfolding size_refused ends_refused index_refused
 accepted_reversed choice coords c es query asked e =
     let a : Accepted coords c es query asked = accepted coords c es query asked e in

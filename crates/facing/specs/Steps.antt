@@ -10,6 +10,7 @@ use Rattle.exact.specs.Facing.{reversed_by, Twice, Share, Group, Made}
 use Rattle.exact.proofs.Forced.{differ}
 use Rattle.cell.specs.Faces.{faces_of}
 use Rattle.side_table.specs.Numbers.{Known, Numbered, entry_of}
+use Rattle.places.specs.Refusals.{Check, no_refusal}
 use Rattle.facing.specs.Refused.{reversal_refusal}
 use Rattle.shared_sides.specs.Steps.{face_of, down_of, runs_up, first_at, second_at, Mates}
 
@@ -131,6 +132,6 @@ pub record Marked (at : ℕ → ℕ → ℕ) (table : List ℕ) (n : ℕ) (e : �
   pub second : e.0 ≢ e.1 → (0 < second_at at table e.0 e.1) × (face_of (second_at at table e.0 e.1) < n)
 
 -- ---- what is chosen: why nothing is reversed, and where there is no reason, the choice that the codes make
-pub record Chosen (fs : List (List ℕ)) (t : List ℕ) (r : ℕ) : Type 0 where
+pub record Chosen (fs : List (List ℕ)) (t : List ℕ) (r : Check) : Type 0 where
   pub why : r ≡ reversal_refusal fs
-  pub made : r ≡ 0 → Made fs (code_choice t)
+  pub made : r ≡ no_refusal → Made fs (code_choice t)

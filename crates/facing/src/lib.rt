@@ -18,6 +18,7 @@ ghost use Rattle.facing.specs.Refused.{reversal_refusal};
 ghost use Rattle.facing.specs.Steps.{code_choice, Ground, neighbour_of, up_of, against_of, Met, Spread, Waiting, Seeded, Whole, clash};
 ghost use Rattle.facing.specs.Steps.{clash_face, clash_faces, Marked, Chosen};
 
+use places::refusal::Refusal;
 use shared_sides::SideTable;
 
 // A cell with the table that has the two marks of each of its sides.
@@ -274,8 +275,8 @@ pub fn reverse_faces(corners: &mut [u32], ends: &[u32], code: &[u8]) -> usize
     count
 }
 
-// Why no faces are reversed, 0 where some may be, by way of a table of zeros with room for k rows and k columns;
-// where it is 0 the codes are the choice.
+// Whether some faces may be reversed, or why none are, by way of a table of zeros with room for k rows and k columns;
+// where some may be the codes are the choice.
 fn choose_over<'a>(
     table: &mut [u16],
     number: &'a [u16],
@@ -283,13 +284,13 @@ fn choose_over<'a>(
     corners: &'a [u32],
     ends: &'a [u32],
     code: &mut [u8],
-) -> u8
+) -> Result<(), Refusal>
     requires numbered { Numbered number.now k corners.now ends.now × (length ends.now ≤ most_faces) }
     requires k_in_bounds { (k * k ≤ length table.old) × Blank table.old × Blank code.old × (length code.old ≡ length ends.now) }
     ensures { Chosen (faces_of corners.now ends.now) code.new result }
 {
     if !shared_sides::pair_up(table, number, k, corners, ends) {
-        return 11;
+        return Err(Refusal::Sides);
     }
     let sides = SideTable { table, number, k };
     let cell = Paired {
@@ -299,9 +300,9 @@ fn choose_over<'a>(
     };
     cell.reach(code);
     if cell.clash_faces(code) {
-        return 12;
+        return Err(Refusal::Choice);
     }
-    0
+    Ok(())
 }
 
 // The same with a table of its own, of SIDE rows and columns: what is cleared is not much more than what the vertices that occur need.
@@ -311,7 +312,7 @@ fn choose_in<const SIDE: usize, const ENTRIES: usize>(
     corners: &[u32],
     ends: &[u32],
     code: &mut [u8],
-) -> u8
+) -> Result<(), Refusal>
     requires numbered { Numbered number.now k corners.now ends.now × (length ends.now ≤ most_faces) }
     requires room { (SIDE * SIDE ≡ ENTRIES) × (ENTRIES ≤ most_vertices * most_vertices) }
     requires k_in_bounds { (k ≤ SIDE) × Blank code.old × (length code.old ≡ length ends.now) }
@@ -321,9 +322,10 @@ fn choose_in<const SIDE: usize, const ENTRIES: usize>(
     choose_over(&mut table, number, k, corners, ends, code)
 }
 
-// Why no faces of a cell of v vertices are reversed, 0 where some may be; then the codes are the choice, 2 for each face that it reverses.
+// Whether some faces of a cell of v vertices may be reversed, or why none are; then the codes are the choice, 2 for each face that it
+// reverses.
 // Ruled out: 12 for a cell that some choice closes; a choice that reverses the lowest face of a group.
-pub fn choose(corners: &[u32], ends: &[u32], v: usize, code: &mut [u8]) -> u8
+pub fn choose(corners: &[u32], ends: &[u32], v: usize, code: &mut [u8]) -> Result<(), Refusal>
     requires each { Each 0 (λ c. c < v) corners.now × (v ≤ most_vertices) }
     requires corners_len_bound { (length corners.now ≤ most_corners) × T (rises 0 ends.now (length corners.now))
         × (length ends.now ≤ most_faces) }
@@ -343,7 +345,7 @@ pub fn choose(corners: &[u32], ends: &[u32], v: usize, code: &mut [u8]) -> u8
 
 // Only why: for a caller that reverses nothing.
 // Ruled out: 12 before 11; a refusal of a cell that is closed already.
-pub fn refusal(corners: &[u32], ends: &[u32], v: usize) -> u8
+pub fn refusal(corners: &[u32], ends: &[u32], v: usize) -> Result<(), Refusal>
     requires each { Each 0 (λ c. c < v) corners.now × (v ≤ most_vertices) }
     requires corners_len_bound { (length corners.now ≤ most_corners) × T (rises 0 ends.now (length corners.now))
         × (length ends.now ≤ most_faces) }

@@ -1,15 +1,32 @@
--- How an entry answers: the value where nothing is refused, else the refusal's number and no value.
+-- How an entry answers: the value where nothing is refused, else the refusal and no value.
 -- A call that a check refuses leaves every lent list as it was.
-use Rattle.std.specs.Prelude.{cond, ℕ, ◌≡◌, eqb, length, get_or, drop, List, [], ◌++◌}
+use Rattle.std.specs.Prelude.{◌≡◌, length, get_or, drop, List, [], ◌++◌, Result, Ok, Err}
+use Rattle.places.specs.Refusals.{Check}
+use Rattle.places.specs.declared.refusal.Refusal.{Refusal}
 use Rattle.flat.specs.Points.{Point, Box, at}
 use Rattle.geometry.specs.declared.Point3.{Point3}
 use Rattle.geometry.specs.declared.Point2.{Point2}
 use Rattle.geometry.specs.declared.Bounds3.{Bounds3}
 use Rattle.geometry.specs.declared.Bounds2.{Bounds2}
 
--- the answer, or what is answered for the refusal's number
-abbrev pub answered : {A : Type 0} → ℕ → A → (ℕ → A) → A
-answered refusal answer refused = cond (eqb refusal 0) answer (refused refusal)
+-- what an entry answers: a value, or why the call is refused
+abbrev pub Answer : Type 0 → Type 0
+Answer A = Result A Refusal
+
+-- the value where the check passes, else why not
+abbrev pub answered : {A : Type 0} → Check → A → Answer A
+answered (Ok _) value = Ok value
+answered (Err why) value = Err why
+
+-- an answer and a lent list after it where the check passes, else why not, and the list as it was
+abbrev pub beside : {A L : Type 0} → Check → Answer A × L → L → Answer A × L
+beside (Ok _) outcome list = outcome
+beside (Err why) outcome list = (Err why, list)
+
+-- the same with two lists
+abbrev pub beside_two : {A L : Type 0} → Check → Answer A × L × L → L → L → Answer A × L × L
+beside_two (Ok _) outcome first second = outcome
+beside_two (Err why) outcome first second = (Err why, first, second)
 
 -- a promise that is one equation with one named answer allows one outcome: two that it allows are equal
 abbrev pub OneAnswer : Type 1

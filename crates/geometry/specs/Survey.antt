@@ -9,8 +9,7 @@ use Rattle.volume.specs.Triangles.{triangles_of, short_of}
 use Rattle.volume.specs.Volume.{volume_of}
 use Rattle.inside.specs.Inside.{holds}
 use Rattle.geometry.specs.declared.Findings.{Findings}
-use Rattle.geometry.specs.declared.Surveyed.{Surveyed}
-use Rattle.geometry.specs.Answers.{answered}
+use Rattle.geometry.specs.Answers.{Answer, answered}
 
 -- triangles, whether it is closed, faces cut short, the volume, and how many query points it contains
 unfoldable pub survey_of : List Point → List (List ℕ) → List Point → Findings
@@ -24,7 +23,7 @@ survey_of vs fs queries =
     }
 
 -- that, or why the cell or its query points are refused
-unfoldable pub survey_answer : List Float → List ℕ → List ℕ → List Float → Surveyed
+unfoldable pub survey_answer : List Float → List ℕ → List ℕ → List Float → Answer Findings
 survey_answer coords corners ends queries =
     let survey = survey_of (vertices_of coords) (faces_of corners ends) (vertices_of queries) in
-    answered (survey_refusal coords corners ends queries) (Surveyed.Is survey) Surveyed.Refused
+    answered (survey_refusal coords corners ends queries) survey

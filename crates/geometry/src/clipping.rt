@@ -1,43 +1,34 @@
 // Clipping and the overlaps, which work in two lent lists: clipping goes from one to the other and back,
 // and shows what is left in the one where it ended.
+use crate::{Outline, Shared};
+use places::refusal::Refusal;
+
 ghost use Rattle.std.specs.Prelude.{◌≡◌};
-ghost use Rattle.geometry.specs.Clipping.{clipped_answer, number_of, clip_face_answer, clip_convex_answer, overlap_area_answer};
+ghost use Rattle.geometry.specs.Clipping.{clip_face_answer, clip_convex_answer, overlap_area_answer, overlap_answer, outline_shown, shared_shown};
 ghost use Rattle.geometry.specs.Clipping.{shared_answer, overlap_answer};
 
-use work_lists::{NoRoom, Outline};
+// An outline as an entry shows it.
+impl From<work_lists::Outline> for Outline {
+    ghost from_gives = { λ o shown. shown ≡ outline_shown o };
 
-// What is left as an entry answers it: the number of 'no room' is 6 (SCOPE 3).
-fn clipped(left: Result<Option<Outline>, NoRoom>) -> crate::Clipped
-    ensures { result ≡ clipped_answer left }
-{
-    match left {
-        Ok(None) => crate::Clipped::Nothing,
-        Ok(Some(outline)) => crate::Clipped::Outline(outline.points, outline.in_second),
-        Err(NoRoom) => crate::Clipped::Refused(6),
+    fn from(o: work_lists::Outline) -> Outline {
+        Outline {
+            points: o.points,
+            in_second: o.in_second,
+        }
     }
 }
 
-// A sum over what is left, likewise.
-fn number(sum: Result<f64, NoRoom>) -> crate::Number
-    ensures { result ≡ number_of sum }
-{
-    match sum {
-        Ok(x) => crate::Number::Is(x),
-        Err(NoRoom) => crate::Number::Refused(6),
-    }
-}
+// An overlap as an entry shows it.
+impl From<overlap::Shared> for Shared {
+    ghost from_gives = { λ o shown. shown ≡ shared_shown o };
 
-// The overlap of two cells, likewise.
-fn shared(o: Result<overlap::Shared, NoRoom>) -> crate::Overlapped
-    ensures { result ≡ shared_answer o }
-{
-    match o {
-        Ok(x) => crate::Overlapped::Is(crate::Shared {
-            volume: x.volume,
-            arealess: x.arealess,
-            arealess2: x.arealess2,
-        }),
-        Err(NoRoom) => crate::Overlapped::Refused(6),
+    fn from(o: overlap::Shared) -> Shared {
+        Shared {
+            volume: o.volume,
+            arealess: o.arealess,
+            arealess2: o.arealess2,
+        }
     }
 }
 
@@ -52,16 +43,14 @@ pub fn clip_face(
     eps: f64,
     first: &mut [f64],
     second: &mut [f64],
-) -> crate::Clipped
+) -> Result<Option<Outline>, Refusal>
     ensures { (result, first.new, second.new) ≡ clip_face_answer coords.now corners.now ends.now face planes.now eps
         first.old second.old }
 {
-    let why = refusals::clip_refusal(coords, corners, ends, face, planes, first, second);
-    if why != 0 {
-        return crate::Clipped::Refused(why);
-    }
+    refusals::clip_refusal(coords, corners, ends, face, planes, first, second)?;
     let part = cell::face_by_number(corners, ends, face as usize);
-    clipped(clip::clip_face_shown(coords, part, planes, eps, first, second))
+    let left = clip::clip_face_shown(coords, part, planes, eps, first, second)?;
+    Ok(left.map(Outline::from))
 }
 
 // An outline of the plane clipped by the edges of another.
@@ -71,14 +60,12 @@ pub fn clip_convex(
     clip: &[f64],
     first: &mut [f64],
     second: &mut [f64],
-) -> crate::Clipped
+) -> Result<Option<Outline>, Refusal>
     ensures { (result, first.new, second.new) ≡ clip_convex_answer subject.now clip.now first.old second.old }
 {
-    let why = refusals::planar_refusal(subject, clip, first, second);
-    if why != 0 {
-        return crate::Clipped::Refused(why);
-    }
-    clipped(planar::clip_convex_shown(subject, clip, first, second))
+    refusals::planar_refusal(subject, clip, first, second)?;
+    let left = planar::clip_convex_shown(subject, clip, first, second)?;
+    Ok(left.map(Outline::from))
 }
 
 // The area of what is left of an outline of the plane clipped by the edges of another; both work lists are then +0.
@@ -88,16 +75,13 @@ pub fn convex_intersection_area(
     clip: &[f64],
     first: &mut [f64],
     second: &mut [f64],
-) -> crate::Number
+) -> Result<f64, Refusal>
     ensures { (result, first.new, second.new) ≡ overlap_area_answer subject.now clip.now first.old second.old }
 {
-    let why = refusals::planar_refusal(subject, clip, first, second);
-    if why != 0 {
-        return crate::Number::Refused(why);
-    }
+    refusals::planar_refusal(subject, clip, first, second)?;
     let area = planar::convex_intersection_area(subject, clip, first, second);
     work_lists::settle(first, second, 0, false);
-    number(area)
+    Ok(area?)
 }
 
 // The volume of the overlap of two convex cells, and how many faces of each have no area, even where their boxes miss each other; both
@@ -112,18 +96,15 @@ pub fn convex_intersection_volume(
     ends2: &[u32],
     first: &mut [f64],
     second: &mut [f64],
-) -> crate::Overlapped
+) -> Result<Shared, Refusal>
     ensures { (result, first.new, second.new) ≡ overlap_answer coords.now corners.now ends.now
         coords2.now corners2.now ends2.now first.old second.old }
 {
-    let why = refusals::overlap_refusal(
+    refusals::overlap_refusal(
         coords, corners, ends, coords2, corners2, ends2, first, second,
-    );
-    if why != 0 {
-        return crate::Overlapped::Refused(why);
-    }
-    let o = overlap::convex_intersection_volume(
+    )?;
+    let shared = overlap::convex_intersection_volume(
         coords, corners, ends, coords2, corners2, ends2, first, second,
-    );
-    shared(o)
+    )?;
+    Ok(Shared::from(shared))
 }

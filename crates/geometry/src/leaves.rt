@@ -102,11 +102,13 @@ pub fn segment_plane_intersection(a: [f64; 3], b: [f64; 3], da: f64, db: f64) ->
 }
 
 // A plane as the rooms take it.
-fn taken(p: crate::Plane) -> planes::Plane
-    ensures { result ≡ plane_taken p }
-{
-    let n = p.n;
-    planes::Plane { n, d: p.d }
+impl From<crate::Plane> for planes::Plane {
+    ghost from_gives = { λ p taken. taken ≡ plane_taken p };
+
+    fn from(p: crate::Plane) -> planes::Plane {
+        let n = p.n;
+        planes::Plane { n, d: p.d }
+    }
 }
 
 // Whether two planes are the same with the inside on the same side.
@@ -114,7 +116,7 @@ fn taken(p: crate::Plane) -> planes::Plane
 pub fn plane_same_side(a: crate::Plane, b: crate::Plane, tol: f64) -> bool
     ensures { result ≡ plane_same_side_answer a b tol }
 {
-    planes::plane_same_side(taken(a), taken(b), tol)
+    planes::plane_same_side(planes::Plane::from(a), planes::Plane::from(b), tol)
 }
 
 // Whether two planes are the same with the inside on opposite sides: the normals' product is not at least −1 + 1e-10, so a NaN passes,
@@ -123,5 +125,5 @@ pub fn plane_same_side(a: crate::Plane, b: crate::Plane, tol: f64) -> bool
 pub fn plane_coplanar_opposite(a: crate::Plane, b: crate::Plane, tol: f64) -> bool
     ensures { result ≡ plane_coplanar_opposite_answer a b tol }
 {
-    planes::plane_coplanar_opposite(taken(a), taken(b), tol)
+    planes::plane_coplanar_opposite(planes::Plane::from(a), planes::Plane::from(b), tol)
 }

@@ -10,33 +10,16 @@ pub mod in_space;
 pub mod leaves;
 
 ghost use Rattle.std.specs.Prelude.{◌≡◌};
-ghost use Rattle.geometry.specs.Answers.{named3};
+ghost use Rattle.geometry.specs.Answers.{named3, bounds3};
 ghost use Rattle.geometry.specs.Cells.{volume_answer, centroid_answer, geometric_centroid_answer, bounds_answer, scale_answer};
 ghost use Rattle.geometry.specs.Cells.{closed_answer, contains_answer, point_in_phed_answer, cell_of, describe_answer, is_convex_answer};
-ghost use Rattle.geometry.specs.Cells.{into_ccw_answer, without_plane, plane_of_face_answer, no_area_faces_answer, triangles_answer};
-ghost use Rattle.geometry.specs.Cells.{triangle_places_answer};
+ghost use Rattle.geometry.specs.Cells.{into_ccw_answer, plane_of_face_answer, no_area_faces_answer, triangles_answer};
+ghost use Rattle.geometry.specs.Cells.{triangle_places_answer, plane_shown};
 ghost use Rattle.geometry.specs.CheckCut.{check_cut_answer, YesForCuts};
 ghost use Rattle.geometry.specs.Survey.{survey_answer};
 ghost use Rattle.geometry.specs.TurnFaces.{can_turn_answer, TurnFacesGives};
 
-// An answer that is a number, a yes or no, a count; or the number of the refusal.
-#[derive(Clone, Copy)]
-pub enum Number {
-    Is(f64),
-    Refused(u8),
-}
-
-#[derive(Clone, Copy)]
-pub enum Truth {
-    Is(bool),
-    Refused(u8),
-}
-
-#[derive(Clone, Copy)]
-pub enum Count {
-    Is(usize),
-    Refused(u8),
-}
+use places::refusal::Refusal;
 
 // A point and a box, of space and of the plane. An enum holds no array, so the coordinates have names.
 #[derive(Clone, Copy)]
@@ -64,37 +47,6 @@ pub struct Bounds2 {
     pub high: Point2,
 }
 
-#[derive(Clone, Copy)]
-pub enum Place {
-    Is(Point3),
-    Refused(u8),
-}
-
-#[derive(Clone, Copy)]
-pub enum Extent {
-    Is(Bounds3),
-    Refused(u8),
-}
-
-#[derive(Clone, Copy)]
-pub enum PlanePlace {
-    Is(Point2),
-    Refused(u8),
-}
-
-#[derive(Clone, Copy)]
-pub enum PlaneExtent {
-    Is(Bounds2),
-    Refused(u8),
-}
-
-// Done, or the refusal: what was asked for is carried out, or could be (`can_turn`).
-#[derive(Clone, Copy)]
-pub enum Done {
-    Is,
-    Refused(u8),
-}
-
 // What is known of a cell's shape.
 #[derive(Clone, Copy)]
 pub enum Convexity {
@@ -112,33 +64,11 @@ pub struct Cell {
     pub convexity: Convexity,
 }
 
-// A cell's description, or the refusal.
-#[derive(Clone, Copy)]
-pub enum Described {
-    Is(Cell),
-    Refused(u8),
-}
-
 // A plane: a unit normal and the offset along it; the inside is where n · x is at most d.
 #[derive(Clone, Copy)]
 pub struct Plane {
     pub n: [f64; 3],
     pub d: f64,
-}
-
-// A plane is there, or the face has no area, or the refusal. An enum holds no array, so the plane stands beside this.
-#[derive(Clone, Copy)]
-pub enum PlaneAnswer {
-    Is,
-    NoArea,
-    Refused(u8),
-}
-
-// The plane of a face; where there is none it is +0 four times.
-#[derive(Clone, Copy)]
-pub struct FacePlane {
-    pub answer: PlaneAnswer,
-    pub plane: Plane,
 }
 
 // The volume that two cells share, and how many faces of the first and of the second have no area.
@@ -149,19 +79,11 @@ pub struct Shared {
     pub arealess2: usize,
 }
 
-// The overlap of two cells, or the refusal.
+// An outline of so many points, in the first work list or in the second.
 #[derive(Clone, Copy)]
-pub enum Overlapped {
-    Is(Shared),
-    Refused(u8),
-}
-
-// Nothing is left; or an outline of so many points, in the first work list (false) or in the second (true); or the refusal.
-#[derive(Clone, Copy)]
-pub enum Clipped {
-    Nothing,
-    Outline(usize, bool),
-    Refused(u8),
+pub struct Outline {
+    pub points: usize,
+    pub in_second: bool,
 }
 
 // How many triangles a face is cut into, and how many turn tests were made: how often turn × direction was tested at a corner.
@@ -169,13 +91,6 @@ pub enum Clipped {
 pub struct CutCounts {
     pub triangles: usize,
     pub tests: usize,
-}
-
-// A face is cut, or the refusal.
-#[derive(Clone, Copy)]
-pub enum FaceCut {
-    Is(CutCounts),
-    Refused(u8),
 }
 
 // What the cell report finds out about a cell.
@@ -188,111 +103,102 @@ pub struct Findings {
     pub contained: usize,
 }
 
-#[derive(Clone, Copy)]
-pub enum Surveyed {
-    Is(Findings),
-    Refused(u8),
+// The coordinates of a point under their names.
+impl From<[f64; 3]> for Point3 {
+    ghost from_gives = { λ p named. named ≡ named3 p };
+
+    fn from(p: [f64; 3]) -> Point3 {
+        Point3 {
+            x: p[0],
+            y: p[1],
+            z: p[2],
+        }
+    }
 }
 
-// The coordinates of a point under their names.
-fn named3(p: [f64; 3]) -> Point3
-    ensures { result ≡ named3 p }
-{
-    Point3 {
-        x: p[0],
-        y: p[1],
-        z: p[2],
+impl From<[[f64; 3]; 2]> for Bounds3 {
+    ghost from_gives = { λ b named. named ≡ bounds3 b };
+
+    fn from(b: [[f64; 3]; 2]) -> Bounds3 {
+        let [low, high] = b;
+        Bounds3 {
+            low: Point3::from(low),
+            high: Point3::from(high),
+        }
+    }
+}
+
+// A plane as an entry shows it.
+impl From<planes::Plane> for Plane {
+    ghost from_gives = { λ p shown. shown ≡ plane_shown p };
+
+    fn from(p: planes::Plane) -> Plane {
+        let n = p.n;
+        Plane { n, d: p.d }
     }
 }
 
 // |v6| / 6, about the vertex centroid.
 // Ruled out: the sum about the origin; a cell of one face cut only.
-pub fn volume(coords: &[f64], corners: &[u32], ends: &[u32]) -> Number
+pub fn volume(coords: &[f64], corners: &[u32], ends: &[u32]) -> Result<f64, Refusal>
     ensures { result ≡ volume_answer coords.now corners.now ends.now }
 {
-    let why = refusals::cell_refusal(coords, corners, ends);
-    if why != 0 {
-        return Number::Refused(why);
-    }
-    Number::Is(volume::volume(coords, corners, ends))
+    refusals::cell_refusal(coords, corners, ends)?;
+    Ok(volume::volume(coords, corners, ends))
 }
 
 // The vertex centroid.
 // Ruled out: the mean over the corners, which counts a vertex once a face; an answer for a refused cell.
-pub fn centroid(coords: &[f64], corners: &[u32], ends: &[u32]) -> Place
+pub fn centroid(coords: &[f64], corners: &[u32], ends: &[u32]) -> Result<Point3, Refusal>
     ensures { result ≡ centroid_answer coords.now corners.now ends.now }
 {
-    let why = refusals::cell_refusal(coords, corners, ends);
-    if why != 0 {
-        return Place::Refused(why);
-    }
-    Place::Is(named3(flat::space::vertex_centroid(coords)))
+    refusals::cell_refusal(coords, corners, ends)?;
+    Ok(Point3::from(flat::space::vertex_centroid(coords)))
 }
 
 // The volume's own centroid; the first vertex when |v6| < 1e-30.
 // Ruled out: the vertex centroid; NaN for a cell of no volume.
-pub fn geometric_centroid(coords: &[f64], corners: &[u32], ends: &[u32]) -> Place
+pub fn geometric_centroid(coords: &[f64], corners: &[u32], ends: &[u32]) -> Result<Point3, Refusal>
     ensures { result ≡ geometric_centroid_answer coords.now corners.now ends.now }
 {
-    let why = refusals::cell_refusal(coords, corners, ends);
-    if why != 0 {
-        return Place::Refused(why);
-    }
-    Place::Is(named3(volume::geometric_centroid(coords, corners, ends)))
+    refusals::cell_refusal(coords, corners, ends)?;
+    Ok(Point3::from(volume::geometric_centroid(coords, corners, ends)))
 }
 
 // The box of all vertices.
 // Ruled out: a box of the vertices that faces name only; one that holds the origin always.
-pub fn bounds(coords: &[f64], corners: &[u32], ends: &[u32]) -> Extent
+pub fn bounds(coords: &[f64], corners: &[u32], ends: &[u32]) -> Result<Bounds3, Refusal>
     ensures { result ≡ bounds_answer coords.now corners.now ends.now }
 {
-    let why = refusals::cell_refusal(coords, corners, ends);
-    if why != 0 {
-        return Extent::Refused(why);
-    }
-    let b = flat::space::bounds(coords);
-    let low = b[0];
-    let high = b[1];
-    Extent::Is(Bounds3 {
-        low: named3(low),
-        high: named3(high),
-    })
+    refusals::cell_refusal(coords, corners, ends)?;
+    Ok(Bounds3::from(flat::space::bounds(coords)))
 }
 
 // The longest side of that box.
 // Ruled out: the diagonal; the side along x.
-pub fn scale(coords: &[f64], corners: &[u32], ends: &[u32]) -> Number
+pub fn scale(coords: &[f64], corners: &[u32], ends: &[u32]) -> Result<f64, Refusal>
     ensures { result ≡ scale_answer coords.now corners.now ends.now }
 {
-    let why = refusals::cell_refusal(coords, corners, ends);
-    if why != 0 {
-        return Number::Refused(why);
-    }
-    Number::Is(flat::scale(flat::space::bounds(coords)))
+    refusals::cell_refusal(coords, corners, ends)?;
+    Ok(flat::scale(flat::space::bounds(coords)))
 }
 
 // Whether, for all vertex numbers i and j that differ, face sides i to j are as many as j to i.
 // Ruled out: yes for every cell; a test of sides without their direction.
-pub fn closed(coords: &[f64], corners: &[u32], ends: &[u32]) -> Truth
+pub fn closed(coords: &[f64], corners: &[u32], ends: &[u32]) -> Result<bool, Refusal>
     ensures { result ≡ closed_answer coords.now corners.now ends.now }
 {
-    let why = refusals::cell_refusal(coords, corners, ends);
-    if why != 0 {
-        return Truth::Refused(why);
-    }
-    Truth::Is(closedness::closed(corners, ends, coords.len() / 3))
+    refusals::cell_refusal(coords, corners, ends)?;
+    Ok(closedness::closed(corners, ends, coords.len() / 3))
 }
 
 // Whether the ray from the point along +x crosses an odd number of faces.
 // Ruled out: outside for every point; a query value above 2^40 taken.
-pub fn contains(coords: &[f64], corners: &[u32], ends: &[u32], p: [f64; 3]) -> Truth
+pub fn contains(coords: &[f64], corners: &[u32], ends: &[u32], p: [f64; 3]) -> Result<bool, Refusal>
     ensures { result ≡ contains_answer coords.now corners.now ends.now p }
 {
-    let why = refusals::contains_refusal(coords, corners, ends, p);
-    if why != 0 {
-        return Truth::Refused(why);
-    }
-    Truth::Is(inside::contains(coords, corners, ends, p))
+    refusals::contains_refusal(coords, corners, ends, p)?;
+    Ok(inside::contains(coords, corners, ends, p))
 }
 
 // The description of a cell's lists.
@@ -309,125 +215,100 @@ fn description(coords: &[f64], corners: &[u32], ends: &[u32], convexity: Convexi
 
 // The cell by value: how many vertices, corners and faces its lists hold, and what the caller knows of its shape.
 // Ruled out: counts of a refused cell; a shape other than the caller's.
-pub fn describe(coords: &[f64], corners: &[u32], ends: &[u32], convexity: Convexity) -> Described
+pub fn describe(
+    coords: &[f64],
+    corners: &[u32],
+    ends: &[u32],
+    convexity: Convexity,
+) -> Result<Cell, Refusal>
     ensures { result ≡ describe_answer coords.now corners.now ends.now convexity }
 {
-    let why = refusals::cell_refusal(coords, corners, ends);
-    if why != 0 {
-        return Described::Refused(why);
-    }
-    Described::Is(description(coords, corners, ends, convexity))
+    refusals::cell_refusal(coords, corners, ends)?;
+    Ok(description(coords, corners, ends, convexity))
 }
 
 // Whether the cell is convex: what the caller knows, and where that is unknown, whether each face has all other vertices on one side.
 // Ruled out: an unknown shape taken for a convex one; a face's own corners held against it.
-pub fn is_convex(coords: &[f64], corners: &[u32], ends: &[u32], convexity: Convexity) -> Truth
+pub fn is_convex(
+    coords: &[f64],
+    corners: &[u32],
+    ends: &[u32],
+    convexity: Convexity,
+) -> Result<bool, Refusal>
     ensures { result ≡ is_convex_answer coords.now corners.now ends.now convexity }
 {
-    let why = refusals::cell_refusal(coords, corners, ends);
-    if why != 0 {
-        return Truth::Refused(why);
-    }
+    refusals::cell_refusal(coords, corners, ends)?;
     let c = description(coords, corners, ends, convexity);
     let shape = c.convexity;
     match shape {
-        Convexity::Convex => Truth::Is(true),
-        Convexity::Concave => Truth::Is(false),
-        Convexity::Unknown => Truth::Is(outward::compute_convexity(coords, corners, ends)),
+        Convexity::Convex => Ok(true),
+        Convexity::Concave => Ok(false),
+        Convexity::Unknown => Ok(outward::compute_convexity(coords, corners, ends)),
     }
 }
 
 // The faces turned outward, each in its own stretch of the corner list.
 // Ruled out: faces turned inward; a refused list of which some faces are turned.
-pub fn into_ccw(coords: &[f64], corners: &mut [u32], ends: &[u32]) -> Done
+pub fn into_ccw(coords: &[f64], corners: &mut [u32], ends: &[u32]) -> Result<(), Refusal>
     ensures { (result, corners.new) ≡ into_ccw_answer coords.now corners.old ends.now }
 {
-    let why = refusals::faces_refusal(coords, corners, ends, &ends[..0]);
-    if why != 0 {
-        return Done::Refused(why);
-    }
+    refusals::faces_refusal(coords, corners, ends, &ends[..0])?;
     outward::into_ccw(coords, corners, ends);
-    Done::Is
+    Ok(())
 }
 
 // The backward faces turned: some faces are reversed, each in its own stretch of the corner list, so that the cell becomes closed.
 // The answer is how many.
 // Ruled out: the lowest face of a group reversed; 12 although a choice of reversals closes the cell; a refused list that is changed.
-pub fn turn_faces(coords: &[f64], corners: &mut [u32], ends: &[u32]) -> Count
+pub fn turn_faces(coords: &[f64], corners: &mut [u32], ends: &[u32]) -> Result<usize, Refusal>
     ensures { TurnFacesGives coords.now corners.old ends.now result corners.new }
 {
-    let why = refusals::cell_refusal(coords, corners, ends);
-    if why != 0 {
-        return Count::Refused(why);
-    }
+    refusals::cell_refusal(coords, corners, ends)?;
     let n = ends.len();
     let mut code = [0u8; places::limits::MOST_FACES];
     let part = &mut code[..n];
-    let none = facing::choose(corners, ends, coords.len() / 3, part);
-    if none != 0 {
-        return Count::Refused(none);
-    }
-    Count::Is(facing::reverse_faces(corners, ends, part))
+    facing::choose(corners, ends, coords.len() / 3, part)?;
+    Ok(facing::reverse_faces(corners, ends, part))
 }
 
 // Whether turn_faces would be carried out, or its refusal; nothing is turned.
 // Ruled out: a yes for a cell that no choice of reversals closes; 5 for an empty face.
-pub fn can_turn(coords: &[f64], corners: &[u32], ends: &[u32]) -> Done
+#[tactic(auto, unfolding(crate::specs::TurnFaces::can_turn_answer))]
+pub fn can_turn(coords: &[f64], corners: &[u32], ends: &[u32]) -> Result<(), Refusal>
     ensures { result ≡ can_turn_answer coords.now corners.now ends.now }
 {
-    let why = refusals::turn_faces_refusal(coords, corners, ends);
-    if why != 0 {
-        return Done::Refused(why);
-    }
-    Done::Is
+    refusals::turn_faces_refusal(coords, corners, ends)
 }
 
-// No plane, and why.
-fn without_plane(answer: PlaneAnswer) -> FacePlane
-    ensures { result ≡ without_plane answer }
-{
-    let n = [0.0, 0.0, 0.0];
-    FacePlane {
-        answer,
-        plane: Plane { n, d: 0.0 },
-    }
-}
-
-// The plane of the face with a number: a unit normal and an offset; or that the face has no area: its three Newell sums are all 0.
-// Ruled out: the plane of the face before it; no area where only the norm underflows; a plane beside a refusal that is not +0.
-pub fn plane_of_face(coords: &[f64], corners: &[u32], ends: &[u32], face: u32) -> FacePlane
+// The plane of the face with a number: a unit normal and an offset; or none, where the face has no area: its three Newell sums are all 0.
+// Ruled out: the plane of the face before it; no area where only the norm underflows.
+pub fn plane_of_face(
+    coords: &[f64],
+    corners: &[u32],
+    ends: &[u32],
+    face: u32,
+) -> Result<Option<Plane>, Refusal>
     ensures { result ≡ plane_of_face_answer coords.now corners.now ends.now face }
 {
-    let asked = [face];
-    let why = refusals::faces_refusal(coords, corners, ends, &asked);
-    if why != 0 {
-        return without_plane(PlaneAnswer::Refused(why));
-    }
+    refusals::faces_refusal(coords, corners, ends, &[face])?;
     let part = cell::face_by_number(corners, ends, face as usize);
-    let found = planes::plane_of_face(coords, part);
-    if !found.area {
-        return without_plane(PlaneAnswer::NoArea);
-    }
-    let p = found.plane;
-    let n = p.n;
-    FacePlane {
-        answer: PlaneAnswer::Is,
-        plane: Plane { n, d: p.d },
-    }
+    Ok(planes::plane_of_face(coords, part).map(Plane::from))
 }
 
 // Which faces have no area: for each face 1 or 0, at the front of the list.
 // Ruled out: 1 for a face with area; a refusal that writes; a place behind the faces that is changed.
-pub fn no_area_faces(coords: &[f64], corners: &[u32], ends: &[u32], out: &mut [usize]) -> Done
+pub fn no_area_faces(
+    coords: &[f64],
+    corners: &[u32],
+    ends: &[u32],
+    out: &mut [usize],
+) -> Result<(), Refusal>
     ensures { (result, out.new) ≡ no_area_faces_answer coords.now corners.now ends.now out.old }
 {
-    let why = refusals::no_area_refusal(coords, corners, ends, out.len());
-    if why != 0 {
-        return Done::Refused(why);
-    }
+    refusals::no_area_refusal(coords, corners, ends, out.len())?;
     let n = ends.len();
-    planes::no_area_faces(coords, corners, ends, &mut out[0..n]);
-    Done::Is
+    planes::no_area_faces(coords, corners, ends, &mut out[..n]);
+    Ok(())
 }
 
 // The triangles of the face with a number, at the front of out; room is asked for before the cut, even if it stops short. The answer says
@@ -439,19 +320,16 @@ pub fn triangles(
     ends: &[u32],
     face: u32,
     out: &mut [[u32; 3]],
-) -> FaceCut
+) -> Result<CutCounts, Refusal>
     ensures { (result, out.new) ≡ triangles_answer coords.now corners.now ends.now face out.old }
 {
-    let why = refusals::face_refusal(coords, corners, ends, face);
-    if why != 0 {
-        return FaceCut::Refused(why);
-    }
+    refusals::face_refusal(coords, corners, ends, face)?;
     let part = cell::face_by_number(corners, ends, face as usize);
     if refusals::room_refused(part, out.len()) {
-        return FaceCut::Refused(6);
+        return Err(Refusal::Room);
     }
     let c = cut::cut(coords, part, out);
-    FaceCut::Is(CutCounts {
+    Ok(CutCounts {
         triangles: c.triangles,
         tests: c.tests,
     })
@@ -466,19 +344,16 @@ pub fn triangle_places(
     ends: &[u32],
     face: u32,
     out: &mut [[u32; 3]],
-) -> FaceCut
+) -> Result<CutCounts, Refusal>
     ensures { (result, out.new) ≡ triangle_places_answer coords.now corners.now ends.now face out.old }
 {
-    let why = refusals::face_refusal(coords, corners, ends, face);
-    if why != 0 {
-        return FaceCut::Refused(why);
-    }
+    refusals::face_refusal(coords, corners, ends, face)?;
     let part = cell::face_by_number(corners, ends, face as usize);
     if refusals::room_refused(part, out.len()) {
-        return FaceCut::Refused(6);
+        return Err(Refusal::Room);
     }
     let c = cut::by_place::cut_by_place(coords, part, out);
-    FaceCut::Is(CutCounts {
+    Ok(CutCounts {
         triangles: c.triangles,
         tests: c.tests,
     })
@@ -487,41 +362,37 @@ pub fn triangle_places(
 // Whether triangles over the places of a face of n corners, three places each, are a cut of the face: n - 2 of three different places,
 // which run each side of the face once its own way and not back, and every other side that occurs once each way.
 // Ruled out: a triangle that is turned round accepted; a list with one triangle too few accepted.
-pub fn check_cut(n: u32, places: &[u32]) -> Truth
+pub fn check_cut(n: u32, places: &[u32]) -> Result<bool, Refusal>
     ensures value { result ≡ check_cut_answer n places.now }
     ensures yes_for_cuts { YesForCuts n places.now result }
 {
-    let why = refusals::check_refusal(n, places);
-    if why != 0 {
-        return Truth::Refused(why);
-    }
-    Truth::Is(cut_check::is_cut(n as usize, places))
+    refusals::check_refusal(n, places)?;
+    Ok(cut_check::is_cut(n as usize, places))
 }
 
 // Whether the ray from the point along +x crosses an odd number of faces, which stand in one list: 4,294,967,295 ends a face,
 // and faces under 3 corners are skipped.
 // Ruled out: a mark taken for a corner; a face without a mark at the end of the list left out.
-pub fn point_in_phed(coords: &[f64], cs: &[u32], p: [f64; 3]) -> Truth
+pub fn point_in_phed(coords: &[f64], cs: &[u32], p: [f64; 3]) -> Result<bool, Refusal>
     ensures { result ≡ point_in_phed_answer coords.now cs.now p }
 {
-    let why = refusals::phed_refusal(coords, cs, p);
-    if why != 0 {
-        return Truth::Refused(why);
-    }
-    Truth::Is(inside::point_in_phed(coords, cs, p))
+    refusals::phed_refusal(coords, cs, p)?;
+    Ok(inside::point_in_phed(coords, cs, p))
 }
 
 // What the cell report finds out about a cell with its query points: the cell is checked once, and its faces are cut once.
 // Ruled out: a volume of one cell beside the count of another; faces under 3 corners counted among the short ones.
-pub fn survey(coords: &[f64], corners: &[u32], ends: &[u32], queries: &[f64]) -> Surveyed
+pub fn survey(
+    coords: &[f64],
+    corners: &[u32],
+    ends: &[u32],
+    queries: &[f64],
+) -> Result<Findings, Refusal>
     ensures { result ≡ survey_answer coords.now corners.now ends.now queries.now }
 {
-    let why = refusals::survey_refusal(coords, corners, ends, queries);
-    if why != 0 {
-        return Surveyed::Refused(why);
-    }
+    refusals::survey_refusal(coords, corners, ends, queries)?;
     let m = volume::measure(coords, corners, ends);
-    Surveyed::Is(Findings {
+    Ok(Findings {
         triangles: m.triangles,
         closed: closedness::closed(corners, ends, coords.len() / 3),
         short: m.short,

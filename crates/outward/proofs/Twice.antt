@@ -8,6 +8,7 @@ use Prim.Native.Nat.{ℕ}
 use native.Mathlib.Omega.{arith}
 use lib.IntN.{pos}
 use lib.Ieee.{Float, binary64, of_bits, of_int}
+use Rattle.places.specs.Refusals.{no_refusal}
 use Rattle.floats.specs.F64.{◌+f◌, zero64, one64}
 use Rattle.flat.specs.Points.{vertices_of}
 use Rattle.cell.specs.Faces.{faces_of}
@@ -17,7 +18,7 @@ use Rattle.outward.proofs.Computed.{computed}
 
 -- a cell that is not refused, whose corner list turning changes from `c` to `c'`, and turning again from `c'` back to `c`
 pub record Flips (coords : List Float) (c c' es : List ℕ) : Type 0 where
-  pub accepted : refusal_of coords c es [] [] ≡ 0
+  pub accepted : refusal_of coords c es [] [] ≡ no_refusal
   pub full : empty_refused c es ≡ false
   pub differ : c ≢ c'
   pub once : outward_corners (vertices_of coords) (faces_of c es) ≡ c'

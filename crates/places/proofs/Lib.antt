@@ -7,3 +7,4 @@ pub mod Stored
 pub mod Reversal
 pub mod Stretch
 pub mod Stamps
+pub mod Refusals

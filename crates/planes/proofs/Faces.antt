@@ -19,18 +19,8 @@ use Rattle.cell.specs.Faces.{faces_from, faces_of, rises}
 use Rattle.cell.specs.Refusals.{is_empty, empty_refused}
 use Rattle.cell.proofs.Faces.{Step, FaceAsking, faces_start, faces_step, faces_yes, faces_no, faces_more, faces_none, rises_more}
 use Rattle.planes.specs.declared.Plane.{Plane}
-use Rattle.planes.specs.declared.PlaneOrNone.{PlaneOrNone}
 use Rattle.planes.specs.Planes.{PlaneOrNoArea, no_area, has_plane, has_no_area, newell_plane, plane_of, planes_of, no_area_count}
-use Rattle.planes.specs.Steps.{plane_if, handed}
-
--- ---- a plane or no area, as it is handed on
-pub handed_plane : (x : PlaneOrNoArea) {f : PlaneOrNone} → f ≡ handed x → f.area ≡ true → x ≡ has_plane f.plane
-handed_plane no_area e t = absurd (true≢false (sym t ∙ ap (λ (f : PlaneOrNone). f.area) e))
-handed_plane (has_plane p) e t = ap has_plane (sym (ap (λ (f : PlaneOrNone). f.plane) e))
-
-pub handed_no_area : (x : PlaneOrNoArea) {f : PlaneOrNone} → f ≡ handed x → f.area ≡ false → x ≡ no_area
-handed_no_area no_area e t = refl
-handed_no_area (has_plane p) e t = absurd (true≢false (sym (ap (λ (f : PlaneOrNone). f.area) e) ∙ t))
+use Rattle.planes.specs.Steps.{plane_if}
 
 -- and as it is answered
 pub answered_plane : (x : PlaneOrNoArea) {p : Plane} → Some p ≡ plane_if x → x ≡ has_plane p

@@ -4,6 +4,7 @@ use Rattle.std.specs.Prelude.{◌≡◌, true, false, not, List, [], ℕ, T, Flo
 use Rattle.std.specs.Float.{binary64}
 use Rattle.std.specs.Float.Ieee.{of_bits, eq, lt, le}
 use Rattle.std.specs.Float.Ieee.Scale.{finite}
+use Rattle.places.specs.Refusals.{no_refusal}
 use Rattle.places.specs.Lists.{Each}
 use Rattle.floats.specs.F64.{zero64}
 use Rattle.flat.specs.Points.{Point, at, vertices_of, corners_of}
@@ -38,5 +39,5 @@ pub record FiniteOrNot (ps : List Point) : Type 0 where
 -- every face of a cell that is not refused 1 to 5, whatever query points and faces are asked about
 abbrev pub FinitePlanes : List Float → List ℕ → List ℕ → Type 0
 FinitePlanes coords corners ends =
-    (query : List Float) (asked : List ℕ) → refusal_of coords corners ends query asked ≡ 0 → empty_refused corners ends ≡ false
+    (query : List Float) (asked : List ℕ) → refusal_of coords corners ends query asked ≡ no_refusal → empty_refused corners ends ≡ false
     → Each [] (λ face. FiniteOrNot (corners_of (vertices_of coords) face)) (faces_of corners ends)

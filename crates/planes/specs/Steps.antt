@@ -2,7 +2,6 @@
 use Rattle.std.specs.Prelude.{true, false, [], ◌∷◌, Option, Some, None}
 use Rattle.floats.specs.F64.{zero64, one64}
 use Rattle.planes.specs.declared.Plane.{Plane}
-use Rattle.planes.specs.declared.PlaneOrNone.{PlaneOrNone}
 use Rattle.planes.specs.Planes.{PlaneOrNoArea, no_area, has_plane}
 
 -- what is read behind the end of a list of planes
@@ -13,8 +12,3 @@ no_plane = record { n = []; d = one64 }
 abbrev pub plane_if : PlaneOrNoArea → Option Plane
 plane_if no_area = None
 plane_if (has_plane p) = Some p
-
--- a plane or no area as the code hands it on: where there is no plane, +0 four times stand in its place
-abbrev pub handed : PlaneOrNoArea → PlaneOrNone
-handed no_area = record { area = false; plane = record { n = zero64 ∷ zero64 ∷ zero64 ∷ []; d = zero64 } }
-handed (has_plane p) = record { area = true; plane = p }

@@ -7,23 +7,16 @@ ghost use Rattle.flat.specs.Steps.{Inside};
 ghost use Rattle.cell.specs.Faces.{faces_of};
 ghost use Rattle.cell.specs.Refusals.{empty_refused};
 ghost use Rattle.cell.specs.Steps.{Sound};
-ghost use Rattle.planes.specs.Planes.{dot_of, offset_of, unit_plane, all_zero, has_no_area, no_area, plane_of, planes_of, no_area_faces};
+ghost use Rattle.planes.specs.Planes.{dot_of, offset_of, unit_plane, all_zero, has_no_area, plane_of, planes_of, no_area_faces};
 ghost use Rattle.planes.specs.Planes.{no_area_count};
 ghost use Rattle.planes.specs.Planes.{distance_of, same_side, coplanar_opposite, in_fours};
-ghost use Rattle.planes.specs.Steps.{no_plane, plane_if, handed};
+ghost use Rattle.planes.specs.Steps.{no_plane, plane_if};
 
 // A unit normal and an offset; inside is n · x <= d.
 #[derive(Clone, Copy)]
 pub struct Plane {
     pub n: [f64; 3],
     pub d: f64,
-}
-
-// The plane of a face that has area. For one of no area there is none, and +0 four times stand in its place.
-#[derive(Clone, Copy)]
-pub struct PlaneOrNone {
-    pub area: bool,
-    pub plane: Plane,
 }
 
 // The product n · p.
@@ -77,7 +70,7 @@ pub fn has_no_area(coords: &[f64], face: &[u32]) -> bool
 
 // The plane of a face, or nothing where it has no area. Where 1 / norm is infinite, no part of the plane is finite, as SCOPE 11 says.
 // Ruled out: each part divided by the norm, which rounds once instead of twice; an offset taken at the last corner.
-pub fn plane_if_area(coords: &[f64], face: &[u32]) -> Option<Plane>
+pub fn plane_of_face(coords: &[f64], face: &[u32]) -> Option<Plane>
     requires inside { Inside (vertices_of coords.now) face.now }
     requires face_nonzero { 0 < length face.now }
     ensures { result ≡ plane_if (plane_of (corners_of (vertices_of coords.now) face.now)) }
@@ -88,29 +81,6 @@ pub fn plane_if_area(coords: &[f64], face: &[u32]) -> Option<Plane>
     }
     let p = flat::space::vertex_at(coords, face, 0);
     Some(unit_plane(n, offset(n, p)))
-}
-
-// The answer for a face of no area.
-pub fn no_area() -> PlaneOrNone
-    ensures { result ≡ handed no_area }
-{
-    let n = [0.0, 0.0, 0.0];
-    PlaneOrNone {
-        area: false,
-        plane: Plane { n, d: 0.0 },
-    }
-}
-
-// The same with a flag beside the plane, for those who take it so.
-pub fn plane_of_face(coords: &[f64], face: &[u32]) -> PlaneOrNone
-    requires inside { Inside (vertices_of coords.now) face.now }
-    requires face_nonzero { 0 < length face.now }
-    ensures { result ≡ handed (plane_of (corners_of (vertices_of coords.now) face.now)) }
-{
-    match plane_if_area(coords, face) {
-        Some(plane) => PlaneOrNone { area: true, plane },
-        None => no_area(),
-    }
 }
 
 // How far p is beyond a plane.
@@ -198,7 +168,7 @@ pub fn planes(coords: &[f64], corners: &[u32], ends: &[u32], out: &mut [f64]) ->
         let end = end as usize;
         let face = cell::face(corners, start, end);
         start = end;
-        if let Some(plane) = plane_if_area(coords, face) {
+        if let Some(plane) = plane_of_face(coords, face) {
             put_plane(out, m, plane);
             m += 1;
         }

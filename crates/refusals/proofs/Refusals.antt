@@ -11,6 +11,12 @@ use lib.Dec.{T, eqb, leb, ltb}
 use lib.ListN.{length, get_or}
 use lib.Seq.{length-slice}
 use lib.Ieee.{Float}
+use Rattle.std.specs.Prelude.{Ok, Err}
+use Rattle.std.specs.Result.{IsErrAnd}
+use Rattle.places.proofs.Refusals.{handed_on}
+use Rattle.places.specs.Refusals.{Check, no_refusal}
+use Rattle.places.specs.declared.refusal.Refusal.{Refusal}
+use Rattle.places.specs.declared.refusal.Refusal.TheVariants.{Size, Number, Index, EmptyFace, Room, Inexact}
 use Rattle.places.specs.Loops.{any_of}
 use Rattle.places.specs.Lists.{Each}
 use Rattle.places.specs.Stored.{in_threes}
@@ -23,7 +29,7 @@ use Rattle.cell.specs.Faces.{faces_of, rises}
 use Rattle.cell.specs.Refusals.{first_row, points_refused, number_refused, not_below, index_refused, is_empty, empty_refused, refusal_of}
 use Rattle.cell.specs.Steps.{Sound}
 use Rattle.cell.proofs.Faces.{face_at, rises_at, length_faces}
-use Rattle.cell.proofs.Refusals.{row_applies, row_passed, row_zero, no_row, or_none, any_none, all_below, Counted, counted, sound}
+use Rattle.cell.proofs.Refusals.{row_applies, row_passed, row_known, no_row, or_none, any_none, all_below, Counted, counted, sound}
 use Rattle.cell.proofs.Refusals.{asked_known}
 use Rattle.inside.specs.Inside.{face_end}
 use Rattle.inside.specs.Steps.{MarkedInside}
@@ -37,44 +43,40 @@ use Rattle.refusals.specs.Refusals.{no_area_refusal, check_size_refused, check_r
 use Rattle.refusals.specs.Steps.{parts_refused}
 
 -- ---- the first of two refusals
-module _ {why first : ℕ} (rest : ℕ) (found : why ≡ first) where
-  -- one that was found decides
-  pub or_found : why ≢ 0 → why ≡ first_refusal first rest
+module _ {first : Check} (rest : Check) where
+  -- one that is found decides
+  pub or_found : {r : Check} {why : Refusal} → IsErrAnd r (λ y. y ≡ why) → Err why ≡ first → r ≡ first_refusal first rest
   unfolding first_refusal
-  or_found n = rw (← found, ne_eqb why 0 n)
+  or_found h e = rw (handed_on h, ← e)
 
   -- else the other does
-  pub or_other : {r : ℕ} → why ≡ 0 → r ≡ rest → r ≡ first_refusal first rest
+  pub or_other : {r : Check} → no_refusal ≡ first → r ≡ rest → r ≡ first_refusal first rest
   unfolding first_refusal
-  or_other z e = rw (← found, eq-eqb why 0 z) e
+  or_other e q = rw (← e) q
 
-module _ (first rest : ℕ) where
-  -- where neither refuses
-  pub or_zero : first_refusal first rest ≡ 0 → (first ≡ 0) × (rest ≡ 0)
-  unfolding first_refusal
-  or_zero e = go (eqb first 0) refl e
-    where
-      go : (b : Bool) → eqb first 0 ≡ b → cond b rest first ≡ 0 → (first ≡ 0) × (rest ≡ 0)
-      go true t z = (eqb-true first 0 t, z)
-      go false t z = absurd (eqb-false first 0 t z)
+-- where neither refuses
+pub or_none_of_both : (first rest : Check) → first_refusal first rest ≡ no_refusal → (first ≡ no_refusal) × (rest ≡ no_refusal)
+unfolding first_refusal
+or_none_of_both (Ok _) rest e = (refl, e)
+or_none_of_both (Err why) rest e = absurd (cc)
 
 -- ---- a row of a definition, told by the answer b of the code's test
-module _ {b applies : Bool} (n : ℕ) (rows : List (ℕ × Bool)) (asked : b ≡ applies) where
-  -- a test that holds gives its row's number
-  pub row_yes : b ≡ true → n ≡ first_row ((n, applies) ∷ rows)
-  row_yes t = row_applies n rows (sym asked ∙ t)
+module _ {b applies : Bool} (why : Refusal) (rows : List (Refusal × Bool)) (asked : b ≡ applies) where
+  -- a test that holds refuses
+  pub row_yes : b ≡ true → Err why ≡ first_row ((why, applies) ∷ rows)
+  row_yes t = row_applies why rows (sym asked ∙ t)
 
   -- one that fails leaves it to the rows after it
-  pub row_no : {r : ℕ} → b ≡ false → r ≡ first_row rows → r ≡ first_row ((n, applies) ∷ rows)
-  row_no t q = row_passed n rows (sym asked ∙ t) q
+  pub row_no : {r : Check} → b ≡ false → r ≡ first_row rows → r ≡ first_row ((why, applies) ∷ rows)
+  row_no t q = row_passed why rows (sym asked ∙ t) q
 
 -- a size that is judged before all else is row 1 by itself
-module _ {b applies : Bool} (rest : ℕ) (asked : b ≡ applies) where
-  pub size_yes : b ≡ true → 1 ≡ first_refusal (first_row ((1, applies) ∷ [])) rest
-  size_yes t = or_found rest (row_yes 1 [] asked t) (λ z. absurd (omega arith))
+module _ {b applies : Bool} (rest : Check) (asked : b ≡ applies) where
+  pub size_yes : b ≡ true → Err Size ≡ first_refusal (first_row ((Size, applies) ∷ [])) rest
+  size_yes t = or_found rest refl (row_yes Size [] asked t)
 
-  pub size_no : {r : ℕ} → b ≡ false → r ≡ rest → r ≡ first_refusal (first_row ((1, applies) ∷ [])) rest
-  size_no t e = or_other rest (row_no 1 [] asked t no_row) refl e
+  pub size_no : {r : Check} → b ≡ false → r ≡ rest → r ≡ first_refusal (first_row ((Size, applies) ∷ [])) rest
+  size_no t e = or_other rest (row_no Size [] asked t no_row) e
 
 -- a row that asks for either of two: the first decides where it holds, else the second does
 module _ {a x : Bool} (y : Bool) (asked : a ≡ x) where
@@ -85,8 +87,8 @@ module _ {a x : Bool} (y : Bool) (asked : a ≡ x) where
   either_second t u = rw (← asked, t) u
 
 -- a row that stands alone
-pub one_row : (n : ℕ) (applies : Bool) → 1 ≤ n → first_row ((n, applies) ∷ []) ≡ 0 → applies ≡ false
-one_row n applies h e = (row_zero n [] applies h e).0
+pub one_row : (why : Refusal) (applies : Bool) → first_row ((why, applies) ∷ []) ≡ no_refusal → applies ≡ false
+one_row why applies e = (row_known why [] applies e).0
 
 -- ---- a list stored in parts
 module _ (n size most : ℕ) where
@@ -118,43 +120,43 @@ parts_known n size most e =
     (eqb-true _ _ (not-false _ size-known.0), ltb-false most _ size-known.1)
 
 -- ---- lists of points
-pub list_points : (coords : List Float) → list_refusal coords ≡ 0 → points_refused coords ≡ false
+pub list_points : (coords : List Float) → list_refusal coords ≡ no_refusal → points_refused coords ≡ false
 unfolding list_refusal
-list_points coords e = (row_zero 1 ((2, number_refused coords) ∷ []) (points_refused coords) (omega arith) e).0
+list_points coords e = (row_known Size ((Number, number_refused coords) ∷ []) (points_refused coords) e).0
 
-pub list_counted : (coords : List Float) → list_refusal coords ≡ 0 → Counted coords
+pub list_counted : (coords : List Float) → list_refusal coords ≡ no_refusal → Counted coords
 list_counted coords e = counted coords (list_points coords e)
 
-pub list_numbers : (coords : List Float) → list_refusal coords ≡ 0 → number_refused coords ≡ false
+pub list_numbers : (coords : List Float) → list_refusal coords ≡ no_refusal → number_refused coords ≡ false
 unfolding list_refusal
-list_numbers coords e = one_row 2 _ (omega arith) (row_zero 1 ((2, number_refused coords) ∷ []) (points_refused coords) (omega arith) e).1
+list_numbers coords e = one_row Number _ (row_known Size ((Number, number_refused coords) ∷ []) (points_refused coords) e).1
 
 -- vertices that can be moved to a local origin: the list passes, and none stays behind
-pub local_zero : (coords : List Float) → local_refusal coords ≡ 0 → (list_refusal coords ≡ 0) × (move_refused (vertices_of coords) ≡ false)
+pub local_zero : (coords : List Float) → local_refusal coords ≡ no_refusal → (list_refusal coords ≡ no_refusal) × (move_refused (vertices_of coords) ≡ false)
 unfolding local_refusal
 local_zero coords e =
-    let two = or_zero _ _ e in
-    (two.0, one_row 15 _ (omega arith) two.1)
+    let two = or_none_of_both _ _ e in
+    (two.0, one_row Inexact _ two.1)
 
-pub plane_counted : (ps : List Float) → plane_refusal ps ≡ 0 → (length ps % 2 ≡ 0) × (length ps ≤ 1024)
+pub plane_counted : (ps : List Float) → plane_refusal ps ≡ no_refusal → (length ps % 2 ≡ 0) × (length ps ≤ 1024)
 unfolding plane_refusal
 plane_counted ps e =
-    let sized = (row_zero 1 ((2, number_refused ps) ∷ []) (pairs_refused ps) (omega arith) e).0 in
+    let sized = (row_known Size ((Number, number_refused ps) ∷ []) (pairs_refused ps) e).0 in
     let known = parts_known (length ps) 2 512 (pairs_are ps ∙ sized) in
     (known.0, omega (arith, known.0, known.1))
 
 -- ---- a cell and its query points
-module _ (coords : List Float) (corners ends : List ℕ) (queries : List Float) (e : survey_refusal coords corners ends queries ≡ 0) where
-  survey_zero : (first_row ((1, queries_refused queries) ∷ []) ≡ 0) × (refusal_of coords corners ends queries [] ≡ 0)
+module _ (coords : List Float) (corners ends : List ℕ) (queries : List Float) (e : survey_refusal coords corners ends queries ≡ no_refusal) where
+  survey_zero : (first_row ((Size, queries_refused queries) ∷ []) ≡ no_refusal) × (refusal_of coords corners ends queries [] ≡ no_refusal)
   unfolding survey_refusal
-  survey_zero = or_zero _ _ e
+  survey_zero = or_none_of_both _ _ e
 
   pub survey_sound : Sound coords corners ends
   survey_sound = sound coords corners ends queries [] survey_zero.1
 
   pub few_query_points : length (vertices_of queries) ≤ 256
   few_query_points =
-      let sized = one_row 1 _ (omega arith) survey_zero.0 in
+      let sized = one_row Size _ survey_zero.0 in
       rw (length_threes queries) (parts_known (length queries) 3 256 (queries_are queries ∙ sized)).1
 
   pub few_queries : length queries ≤ 770
@@ -174,11 +176,11 @@ pub record Checked (n : ℕ) (places : List ℕ) : Type 0 where
   pub few : length places / 3 ≤ 254
   pub below : Each 0 (λ p. p < n) places
 
-pub check_known : (n : ℕ) (places : List ℕ) → check_refusal n places ≡ 0 → Checked n places
+pub check_known : (n : ℕ) (places : List ℕ) → check_refusal n places ≡ no_refusal → Checked n places
 unfolding check_refusal check_size_refused
 check_known n places e =
-    let one = row_zero 1 _ (check_size_refused n places) (omega arith) e in
-    let four = row_zero 4 [] (index_refused n places) (omega arith) one.1 in
+    let one = row_known Size _ (check_size_refused n places) e in
+    let four = row_known Index [] (index_refused n places) one.1 in
     let size = or_none (ltb n 3 || ltb 256 n) (not (eqb (length places % 3) 0) || ltb 254 (length (in_threes places))) one.0 in
     let corners = or_none (ltb n 3) (ltb 256 n) size.0 in
     let parts = or_none (not (eqb (length places % 3) 0)) (ltb 254 (length (in_threes places))) size.1 in
@@ -191,7 +193,7 @@ check_known n places e =
     }
 
 -- triangles over a face's places are not refused where all that `Checked` says holds of them
-pub check_passes : (n : ℕ) (places : List ℕ) → Checked n places → check_refusal n places ≡ 0
+pub check_passes : (n : ℕ) (places : List ℕ) → Checked n places → check_refusal n places ≡ no_refusal
 unfolding check_refusal check_size_refused index_refused first_row
 check_passes n places k =
     let parts : length (in_threes places) ≤ 254 = omega (arith, k.few, length_threes places) in
@@ -202,14 +204,14 @@ check_passes n places k =
 stray_no : (n c : ℕ) → not (eqb c face_end) && leb n c ≡ false → c ≢ face_end → c < n
 stray_no n c e h = leb-false n c (rw (ne_eqb c face_end h) at e)
 
-pub phed_known : (coords : List Float) (cs : List ℕ) (p : List Float) → phed_refusal coords cs p ≡ 0
+pub phed_known : (coords : List Float) (cs : List ℕ) (p : List Float) → phed_refusal coords cs p ≡ no_refusal
     → MarkedInside (vertices_of coords) cs × (length cs ≤ 2304)
 unfolding phed_refusal
 phed_known coords cs p e =
     let n = length (vertices_of coords) in
-    let one = row_zero 1 _ (points_refused coords || ltb 2304 (length cs)) (omega arith) e in
-    let two = row_zero 2 _ (number_refused coords || number_refused p) (omega arith) one.1 in
-    let four = row_zero 4 [] (any_of (strays n) cs) (omega arith) two.1 in
+    let one = row_known Size _ (points_refused coords || ltb 2304 (length cs)) e in
+    let two = row_known Number _ (number_refused coords || number_refused p) one.1 in
+    let four = row_known Index [] (any_of (strays n) cs) two.1 in
     let size = or_none (points_refused coords) (ltb 2304 (length cs)) one.0 in (
       record { holds = λ k h. stray_no n (get_or cs k 0) (any_none (strays n) 0 cs four.0 k h) },
       ltb-false 2304 _ size.1,
@@ -218,14 +220,15 @@ phed_known coords cs p e =
 -- ---- the triangles of a face
 -- the check of the cell and the face's number decides where it refuses, else the room does
 module _ (coords : List Float) (corners ends : List ℕ) (k room : ℕ) where
-  pub first_decides : {why : ℕ} → why ≡ face_refusal coords corners ends k → why ≢ 0 → why ≡ triangles_refusal coords corners ends k room
+  pub first_decides : {why : Refusal} → Err why ≡ face_refusal coords corners ends k → Err why ≡ triangles_refusal coords corners ends k room
   unfolding triangles_refusal
-  first_decides f n = or_found _ f n
+  first_decides f = or_found _ refl f
 
-  pub room_decides : {why : ℕ} (b : Bool) → why ≡ face_refusal coords corners ends k → why ≡ 0
-      → b ≡ room_refused (get_or (faces_of corners ends) k []) room → cond b 6 0 ≡ triangles_refusal coords corners ends k room
+  pub room_decides : (b : Bool) → no_refusal ≡ face_refusal coords corners ends k
+      → b ≡ room_refused (get_or (faces_of corners ends) k []) room
+      → cond b (Err Room) no_refusal ≡ triangles_refusal coords corners ends k room
   unfolding triangles_refusal first_row
-  room_decides b f z r = or_other _ f z (rw (sym r))
+  room_decides b f r = or_other _ f (rw (sym r))
 
 -- a face that has room
 pub fits : (face : List ℕ) (room : ℕ) → false ≡ room_refused face room → length face - 2 ≤ room
@@ -251,7 +254,7 @@ pub record AskedFace (coords : List Float) (corners ends : List ℕ) (k : ℕ) :
   pub inside : Inside (vertices_of coords) (get_or (faces_of corners ends) k [])
   pub few : length (get_or (faces_of corners ends) k []) ≤ 2048
 
-pub asked_face : (coords : List Float) (corners ends : List ℕ) (k : ℕ) → face_refusal coords corners ends k ≡ 0
+pub asked_face : (coords : List Float) (corners ends : List ℕ) (k : ℕ) → face_refusal coords corners ends k ≡ no_refusal
     → AskedFace coords corners ends k
 asked_face coords corners ends k z =
     let s = sound coords corners ends [] (k ∷ []) z in
@@ -267,25 +270,25 @@ face_solid corners ends k e h = has_corner_lem _ (any_none is_empty [] (faces_of
 
 -- ---- a cell whose faces all have corners
 pub record FacesKnown (coords : List Float) (corners ends asked : List ℕ) : Type 0 where
-  pub cell : refusal_of coords corners ends [] asked ≡ 0
+  pub cell : refusal_of coords corners ends [] asked ≡ no_refusal
   pub sound : Sound coords corners ends
   pub solid : empty_refused corners ends ≡ false
 
-pub faces_known : (coords : List Float) (corners ends asked : List ℕ) → faces_refusal coords corners ends asked ≡ 0
+pub faces_known : (coords : List Float) (corners ends asked : List ℕ) → faces_refusal coords corners ends asked ≡ no_refusal
     → FacesKnown coords corners ends asked
 unfolding faces_refusal
 faces_known coords corners ends asked e =
-    let two = or_zero _ _ e in
-    record { cell = two.0; sound = sound coords corners ends [] asked two.0; solid = one_row 5 _ (omega arith) two.1 }
+    let two = or_none_of_both _ _ e in
+    record { cell = two.0; sound = sound coords corners ends [] asked two.0; solid = one_row EmptyFace _ two.1 }
 
 -- a list that is not refused has a place for each face
-pub no_area_known : (coords : List Float) (corners ends : List ℕ) (room : ℕ) → no_area_refusal coords corners ends room ≡ 0
+pub no_area_known : (coords : List Float) (corners ends : List ℕ) (room : ℕ) → no_area_refusal coords corners ends room ≡ no_refusal
     → Sound coords corners ends × (length ends ≤ room)
 unfolding no_area_refusal
 no_area_known coords corners ends room e =
-    let two = or_zero _ _ e in (
+    let two = or_none_of_both _ _ e in (
       (faces_known coords corners ends [] two.0).sound,
-      ltb-false room (length ends) (one_row 6 _ (omega arith) two.1),
+      ltb-false room (length ends) (one_row Room _ two.1),
     )
 
 -- what is known of the face k of such a cell
@@ -295,7 +298,7 @@ pub record SolidFace (coords : List Float) (corners ends : List ℕ) (k : ℕ) :
   pub inside : Inside (vertices_of coords) (get_or (faces_of corners ends) k [])
   pub some : 0 < length (get_or (faces_of corners ends) k [])
 
-pub face_known : (coords : List Float) (corners ends : List ℕ) (k : ℕ) → faces_refusal coords corners ends (k ∷ []) ≡ 0
+pub face_known : (coords : List Float) (corners ends : List ℕ) (k : ℕ) → faces_refusal coords corners ends (k ∷ []) ≡ no_refusal
     → SolidFace coords corners ends k
 face_known coords corners ends k e =
     let s = faces_known coords corners ends (k ∷ []) e in
@@ -308,10 +311,10 @@ face_known coords corners ends k e =
     }
 
 -- ---- clipping and the overlap
-works_known : (first second : List Float) → works_refusal first second ≡ 0 → (length first ≤ 3072) × (length second ≤ 3072)
+works_known : (first second : List Float) → works_refusal first second ≡ no_refusal → (length first ≤ 3072) × (length second ≤ 3072)
 unfolding works_refusal work_refused
 works_known first second e =
-    let two = or_none _ _ (one_row 1 _ (omega arith) e) in
+    let two = or_none _ _ (one_row Size _ e) in
     (ltb-false 3072 _ two.0, ltb-false 3072 _ two.1)
 
 -- what is known where the clipping of the face k is not refused
@@ -325,12 +328,12 @@ pub record Clippable (coords : List Float) (corners ends : List ℕ) (k : ℕ) (
   pub second_few : length second ≤ 3072
 
 pub clip_known : (coords : List Float) (corners ends : List ℕ) (k : ℕ) (planes first second : List Float)
-    → clip_refusal coords corners ends k planes first second ≡ 0 → Clippable coords corners ends k planes first second
+    → clip_refusal coords corners ends k planes first second ≡ no_refusal → Clippable coords corners ends k planes first second
 unfolding clip_refusal
 clip_known coords corners ends k planes first second e =
-    let size = or_zero _ _ e in
-    let lists = or_zero _ _ size.1 in
-    let fours = parts_known (length planes) 4 256 (planes_are planes ∙ one_row 1 _ (omega arith) size.0) in
+    let size = or_none_of_both _ _ e in
+    let lists = or_none_of_both _ _ size.1 in
+    let fours = parts_known (length planes) 4 256 (planes_are planes ∙ one_row Size _ size.0) in
     let works = works_known first second lists.0 in
     let face = asked_face coords corners ends k lists.1 in
     record {
@@ -350,12 +353,12 @@ pub record Planar (subject clip first second : List Float) : Type 0 where
   pub first_few : length first ≤ 3072
   pub second_few : length second ≤ 3072
 
-pub planar_known : (subject clip first second : List Float) → planar_refusal subject clip first second ≡ 0
+pub planar_known : (subject clip first second : List Float) → planar_refusal subject clip first second ≡ no_refusal
     → Planar subject clip first second
 unfolding planar_refusal
 planar_known subject clip first second e =
-    let lists = or_zero _ _ e in
-    let outlines = or_zero _ _ lists.1 in
+    let lists = or_none_of_both _ _ e in
+    let outlines = or_none_of_both _ _ lists.1 in
     let works = works_known first second lists.0 in
     record {
       subject_few = (plane_counted subject outlines.0).1;
@@ -373,12 +376,12 @@ pub record Overlapping (coords : List Float) (corners ends : List ℕ) (coords2 
   pub second_few : length second ≤ 3072
 
 pub overlap_known : (coords : List Float) (corners ends : List ℕ) (coords2 : List Float) (corners2 ends2 : List ℕ)
-    (first second : List Float) → overlap_refusal coords corners ends coords2 corners2 ends2 first second ≡ 0
+    (first second : List Float) → overlap_refusal coords corners ends coords2 corners2 ends2 first second ≡ no_refusal
     → Overlapping coords corners ends coords2 corners2 ends2 first second
 unfolding overlap_refusal
 overlap_known coords corners ends coords2 corners2 ends2 first second e =
-    let lists = or_zero _ _ e in
-    let cells = or_zero _ _ lists.1 in
+    let lists = or_none_of_both _ _ e in
+    let cells = or_none_of_both _ _ lists.1 in
     let works = works_known first second lists.0 in
     record {
       one = faces_known coords corners ends [] cells.0;

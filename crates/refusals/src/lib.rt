@@ -1,4 +1,4 @@
-// Why the public entries refuse, 0 where they do not: each check in the order of SCOPE 3.
+// Why the public entries refuse: each check in the order of SCOPE 3.
 #![tactic(auto)]
 
 ghost use Rattle.std.specs.Prelude.{◌≡◌, ◌-◌, ◌<◌};
@@ -10,15 +10,14 @@ ghost use Rattle.refusals.specs.Refusals.{survey_refusal};
 ghost use Rattle.refusals.specs.Refusals.{planes_refused, work_refused, works_refusal, clip_refusal, planar_refusal, overlap_refusal};
 ghost use Rattle.refusals.specs.Steps.{parts_refused};
 
+use places::refusal::Refusal;
+
 // Whether n numbers do not come in parts of a size, or make too many of them.
 fn parts_refused(n: usize, size: usize, most: usize) -> bool
     requires { 0 < size }
     ensures { result ≡ parts_refused n size most }
 {
-    if n % size != 0 {
-        return true;
-    }
-    n / size > most
+    (n % size != 0) | (n / size > most)
 }
 
 // Not in pairs, or over 512 points.
@@ -51,50 +50,47 @@ fn work_refused(l: &[f64]) -> bool
 
 // Why a list of points of space is refused.
 // Ruled out: a NaN found before a list that is not in threes; an empty list let through.
-pub fn list_refusal(coords: &[f64]) -> u8
+pub fn list_refusal(coords: &[f64]) -> Result<(), Refusal>
     ensures { result ≡ list_refusal coords.now }
 {
     if cell::points_refused(coords) {
-        return 1;
+        return Err(Refusal::Size);
     }
     if cell::number_refused(coords) {
-        return 2;
+        return Err(Refusal::Number);
     }
-    0
+    Ok(())
 }
 
 // Why vertices are not moved to a local origin.
 // Ruled out: 15 for a list that has a number out of range; 15 where every difference is an f64.
-pub fn local_refusal(coords: &[f64]) -> u8
+pub fn local_refusal(coords: &[f64]) -> Result<(), Refusal>
     ensures { result ≡ local_refusal coords.now }
 {
-    let why = list_refusal(coords);
-    if why != 0 {
-        return why;
-    }
+    list_refusal(coords)?;
     if local::move_refused(coords) {
-        return 15;
+        return Err(Refusal::Inexact);
     }
-    0
+    Ok(())
 }
 
 // Why a list of points of the plane is refused.
 // Ruled out: an empty list refused; a limit of 512 numbers for 512 points.
-pub fn plane_refusal(ps: &[f64]) -> u8
+pub fn plane_refusal(ps: &[f64]) -> Result<(), Refusal>
     ensures { result ≡ plane_refusal ps.now }
 {
     if pairs_refused(ps) {
-        return 1;
+        return Err(Refusal::Size);
     }
     if cell::number_refused(ps) {
-        return 2;
+        return Err(Refusal::Number);
     }
-    0
+    Ok(())
 }
 
 // Why a cell of which nothing else is asked is refused.
 // Ruled out: every cell refused; an index judged before the ends.
-pub fn cell_refusal(coords: &[f64], corners: &[u32], ends: &[u32]) -> u8
+pub fn cell_refusal(coords: &[f64], corners: &[u32], ends: &[u32]) -> Result<(), Refusal>
     ensures { result ≡ cell_refusal coords.now corners.now ends.now }
 {
     cell::refusal(coords, corners, ends, &coords[..0], &corners[..0])
@@ -102,7 +98,12 @@ pub fn cell_refusal(coords: &[f64], corners: &[u32], ends: &[u32]) -> u8
 
 // Why a cell with one query point is refused.
 // Ruled out: a query value above 2^40 taken; the point judged after the corners.
-pub fn contains_refusal(coords: &[f64], corners: &[u32], ends: &[u32], p: [f64; 3]) -> u8
+pub fn contains_refusal(
+    coords: &[f64],
+    corners: &[u32],
+    ends: &[u32],
+    p: [f64; 3],
+) -> Result<(), Refusal>
     ensures { result ≡ contains_refusal coords.now corners.now ends.now p }
 {
     cell::refusal(coords, corners, ends, &p, &corners[..0])
@@ -110,53 +111,53 @@ pub fn contains_refusal(coords: &[f64], corners: &[u32], ends: &[u32], p: [f64; 
 
 // Why a cell is refused whose faces are all to have corners; `asked` are the numbers of faces that are asked for.
 // Ruled out: an empty face found before a corner that is out of range; only the faces that are asked for tested for corners.
-pub fn faces_refusal(coords: &[f64], corners: &[u32], ends: &[u32], asked: &[u32]) -> u8
+pub fn faces_refusal(
+    coords: &[f64],
+    corners: &[u32],
+    ends: &[u32],
+    asked: &[u32],
+) -> Result<(), Refusal>
     ensures { result ≡ faces_refusal coords.now corners.now ends.now asked.now }
 {
-    let why = cell::refusal(coords, corners, ends, &coords[..0], asked);
-    if why != 0 {
-        return why;
-    }
+    cell::refusal(coords, corners, ends, &coords[..0], asked)?;
     if cell::empty_refused(corners, ends) {
-        return 5;
+        return Err(Refusal::EmptyFace);
     }
-    0
+    Ok(())
 }
 
 // Why the faces of no area are not told in a list with so much room.
 // Ruled out: 6 for a cell that has an empty face; a list that is too short by one let through.
-pub fn no_area_refusal(coords: &[f64], corners: &[u32], ends: &[u32], room: usize) -> u8
+pub fn no_area_refusal(
+    coords: &[f64],
+    corners: &[u32],
+    ends: &[u32],
+    room: usize,
+) -> Result<(), Refusal>
     ensures { result ≡ no_area_refusal coords.now corners.now ends.now room }
 {
-    let why = faces_refusal(coords, corners, ends, &ends[..0]);
-    if why != 0 {
-        return why;
-    }
+    faces_refusal(coords, corners, ends, &ends[..0])?;
     if room < ends.len() {
-        return 6;
+        return Err(Refusal::Room);
     }
-    0
+    Ok(())
 }
 
 // Why turning the backward faces is refused; faces of 0 corners pass.
 // Ruled out: 5 for an empty face; a side that occurs once found before a corner that is out of range.
-pub fn turn_faces_refusal(coords: &[f64], corners: &[u32], ends: &[u32]) -> u8
+pub fn turn_faces_refusal(coords: &[f64], corners: &[u32], ends: &[u32]) -> Result<(), Refusal>
     ensures { result ≡ turn_faces_refusal coords.now corners.now ends.now }
 {
-    let why = cell_refusal(coords, corners, ends);
-    if why != 0 {
-        return why;
-    }
+    cell_refusal(coords, corners, ends)?;
     facing::refusal(corners, ends, coords.len() / 3)
 }
 
 // Why a cell is refused of which the face with a number is asked for.
 // Ruled out: a face that is not there let through; the face's number judged before the corners.
-pub fn face_refusal(coords: &[f64], corners: &[u32], ends: &[u32], face: u32) -> u8
+pub fn face_refusal(coords: &[f64], corners: &[u32], ends: &[u32], face: u32) -> Result<(), Refusal>
     ensures { result ≡ face_refusal coords.now corners.now ends.now face }
 {
-    let asked = [face];
-    cell::refusal(coords, corners, ends, &coords[..0], &asked)
+    cell::refusal(coords, corners, ends, &coords[..0], &[face])
 }
 
 // Whether `room` places are too few for the triangles of a face, which is refused as 6 after face_refusal; room is asked for even if
@@ -165,35 +166,29 @@ pub fn face_refusal(coords: &[f64], corners: &[u32], ends: &[u32], face: u32) ->
 pub fn room_refused(face: &[u32], room: usize) -> bool
     ensures { result ≡ room_refused face.now room }
 {
-    let n = face.len();
-    if n < 2 { false } else { room < n - 2 }
+    room < face.len().saturating_sub(2)
 }
 
 // A face of under 3 or over 256 corners; or triangles' corners, each a place of the face, not in threes, or over 254 triangles.
 fn check_size_refused(n: u32, corners: &[u32]) -> bool
     ensures { result ≡ check_size_refused n corners.now }
 {
-    if n < 3 {
-        return true;
-    }
-    if n as usize > places::limits::MOST_CHECKED_CORNERS {
-        return true;
-    }
-    parts_refused(corners.len(), 3, places::limits::MOST_CHECKED_TRIANGLES)
+    let many = n as usize > places::limits::MOST_CHECKED_CORNERS;
+    ((n < 3) | many) | parts_refused(corners.len(), 3, places::limits::MOST_CHECKED_TRIANGLES)
 }
 
 // Why triangles over the places of a face of n corners are not checked; `corners` are the triangles' corners, each by its place.
 // Ruled out: a place equal to n let through; 4 for a list that is not in threes.
-pub fn check_refusal(n: u32, corners: &[u32]) -> u8
+pub fn check_refusal(n: u32, corners: &[u32]) -> Result<(), Refusal>
     ensures { result ≡ check_refusal n corners.now }
 {
     if check_size_refused(n, corners) {
-        return 1;
+        return Err(Refusal::Size);
     }
     if cell::index_refused(n as usize, corners) {
-        return 4;
+        return Err(Refusal::Index);
     }
-    0
+    Ok(())
 }
 
 // Whether an entry that is not the mark is not below n. Every entry is looked at, without an exit.
@@ -202,12 +197,9 @@ fn strays_in(n: usize, cs: &[u32]) -> bool
     ensures { result ≡ any_of (strays n) cs.now }
 {
     let beyond = n as u32;
-    let m = cs.len();
     let mut any = false;
-    let mut i = 0;
-    while i < m {
-        any = cell::one_or_both(any, strays(beyond, cell::stored(cs, i)));
-        i += 1;
+    for &c in cs {
+        any |= strays(beyond, c);
     }
     any
 }
@@ -215,54 +207,50 @@ fn strays_in(n: usize, cs: &[u32]) -> bool
 fn strays(n: u32, c: u32) -> bool
     ensures { result ≡ strays n c }
 {
-    if c == 4294967295 { false } else { n <= c }
+    (c != 4294967295) & (n <= c)
 }
 
 // Why point_in_phed refuses.
 // Ruled out: a mark refused as an index; a list of 2,304 entries refused.
-pub fn phed_refusal(coords: &[f64], cs: &[u32], p: [f64; 3]) -> u8
+pub fn phed_refusal(coords: &[f64], cs: &[u32], p: [f64; 3]) -> Result<(), Refusal>
     ensures { result ≡ phed_refusal coords.now cs.now p }
 {
-    if cell::points_refused(coords) {
-        return 1;
+    if cell::points_refused(coords) || cs.len() > places::limits::MOST_MARKED_CORNERS {
+        return Err(Refusal::Size);
     }
-    if cs.len() > places::limits::MOST_MARKED_CORNERS {
-        return 1;
-    }
-    if cell::number_refused(coords) {
-        return 2;
-    }
-    if cell::number_refused(&p) {
-        return 2;
+    if cell::number_refused(coords) || cell::number_refused(&p) {
+        return Err(Refusal::Number);
     }
     if strays_in(coords.len() / 3, cs) {
-        return 4;
+        return Err(Refusal::Index);
     }
-    0
+    Ok(())
 }
 
 // Why a cell or its query points are refused.
 // Ruled out: query values that are not looked at; too many query points found only after the cell's numbers.
-pub fn survey_refusal(coords: &[f64], corners: &[u32], ends: &[u32], queries: &[f64]) -> u8
+pub fn survey_refusal(
+    coords: &[f64],
+    corners: &[u32],
+    ends: &[u32],
+    queries: &[f64],
+) -> Result<(), Refusal>
     ensures { result ≡ survey_refusal coords.now corners.now ends.now queries.now }
 {
     if queries_refused(queries) {
-        return 1;
+        return Err(Refusal::Size);
     }
     cell::refusal(coords, corners, ends, queries, &corners[..0])
 }
 
 // Why the two work lists are refused.
-fn works_refusal(first: &[f64], second: &[f64]) -> u8
+fn works_refusal(first: &[f64], second: &[f64]) -> Result<(), Refusal>
     ensures { result ≡ works_refusal first.now second.now }
 {
-    if work_refused(first) {
-        return 1;
+    if work_refused(first) | work_refused(second) {
+        return Err(Refusal::Size);
     }
-    if work_refused(second) {
-        return 1;
-    }
-    0
+    Ok(())
 }
 
 // Why the clipping of a face by planes is refused, room apart. The planes' own numbers are taken as they are.
@@ -275,32 +263,28 @@ pub fn clip_refusal(
     planes: &[f64],
     first: &[f64],
     second: &[f64],
-) -> u8
+) -> Result<(), Refusal>
     ensures { result ≡ clip_refusal coords.now corners.now ends.now face planes.now first.now second.now }
 {
     if planes_refused(planes) {
-        return 1;
+        return Err(Refusal::Size);
     }
-    let size = works_refusal(first, second);
-    if size != 0 {
-        return size;
-    }
+    works_refusal(first, second)?;
     face_refusal(coords, corners, ends, face)
 }
 
 // Why planar clipping is refused, room apart.
 // Ruled out: the clip list's size judged before the subject's numbers; an empty clip list refused.
-pub fn planar_refusal(subject: &[f64], clip: &[f64], first: &[f64], second: &[f64]) -> u8
+pub fn planar_refusal(
+    subject: &[f64],
+    clip: &[f64],
+    first: &[f64],
+    second: &[f64],
+) -> Result<(), Refusal>
     ensures { result ≡ planar_refusal subject.now clip.now first.now second.now }
 {
-    let size = works_refusal(first, second);
-    if size != 0 {
-        return size;
-    }
-    let why = plane_refusal(subject);
-    if why != 0 {
-        return why;
-    }
+    works_refusal(first, second)?;
+    plane_refusal(subject)?;
     plane_refusal(clip)
 }
 
@@ -315,17 +299,11 @@ pub fn overlap_refusal(
     ends2: &[u32],
     first: &[f64],
     second: &[f64],
-) -> u8
+) -> Result<(), Refusal>
     ensures { result ≡ overlap_refusal coords.now corners.now ends.now coords2.now corners2.now ends2.now first.now
         second.now }
 {
-    let size = works_refusal(first, second);
-    if size != 0 {
-        return size;
-    }
-    let why = faces_refusal(coords, corners, ends, &corners[..0]);
-    if why != 0 {
-        return why;
-    }
+    works_refusal(first, second)?;
+    faces_refusal(coords, corners, ends, &corners[..0])?;
     faces_refusal(coords2, corners2, ends2, &corners[..0])
 }

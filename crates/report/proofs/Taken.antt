@@ -10,7 +10,8 @@ use lib.Seq.{sets, sets-eq, take_at, length-take-le}
 use lib.Dec.{eqb}
 use lib.Ieee.{Float}
 use borrow.Author.Tests.{eq-eqb, ne_eqb}
-use Rattle.geometry.specs.declared.Surveyed.{Surveyed}
+use Rattle.geometry.specs.declared.Findings.{Findings}
+use Rattle.geometry.specs.Answers.{Answer}
 use Rattle.geometry.specs.Survey.{survey_answer}
 use Rattle.records.specs.declared.bytes.Rec.{Rec}
 use Rattle.records.specs.declared.tally.Tally.{Tally}
@@ -97,7 +98,7 @@ pub line_refused : {o : List ℕ} {at : ℕ} {o' : List ℕ} {m : ℕ} (h : Held
 unfolding line_of
 line_refused h n p = rw (ne_eqb h.tally.refusal 0 n) p
 
-pub line_found : {o : List ℕ} {at : ℕ} {o' : List ℕ} {m : ℕ} (h : Held) (x y : Surveyed) → h.tally.refusal ≡ 0
+pub line_found : {o : List ℕ} {at : ℕ} {o' : List ℕ} {m : ℕ} (h : Held) (x y : Answer Findings) → h.tally.refusal ≡ 0
     → x ≡ survey_answer h.coords h.corners h.ends h.queries → x ≡ y
     → Put o at (survey_line h.tally.number h.tally.verts h.tally.faces y) o' m → Put o at (line_of h) o' m
 unfolding line_of

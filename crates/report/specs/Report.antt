@@ -1,8 +1,9 @@
 -- The report: the bytes are cut into records, each record makes something of the cell so far, and one that ends a cell prints its line.
-use Rattle.std.specs.Prelude.{ℕ, ◌+◌, ◌*◌, List, [], ◌∷◌, ◌++◌, Bool, cond, length, take, drop, eqb, Float}
+use Rattle.std.specs.Prelude.{ℕ, ◌+◌, ◌*◌, List, [], ◌∷◌, ◌++◌, Bool, cond, length, take, drop, eqb, Float, Ok, Err}
+use Rattle.places.specs.Refusals.{number_of}
 use Rattle.std.proofs.lemmas.List.Edits.{sets}
-use Rattle.geometry.specs.declared.Surveyed.{Surveyed}
-use Rattle.geometry.specs.declared.Surveyed.TheVariants.{Is, Refused}
+use Rattle.geometry.specs.declared.Findings.{Findings}
+use Rattle.geometry.specs.Answers.{Answer}
 use Rattle.geometry.specs.Survey.{survey_answer}
 use Rattle.records.specs.declared.bytes.Rec.{Rec}
 use Rattle.records.specs.declared.tally.Tally.{Tally}
@@ -34,9 +35,9 @@ grown_of h r =
     }
 
 -- the line for what the survey answers
-abbrev pub survey_line : ℕ → ℕ → ℕ → Surveyed → List ℕ
-survey_line number verts faces (Is s) = cell_line number verts faces s
-survey_line number verts faces (Refused why) = refused_line number why
+abbrev pub survey_line : ℕ → ℕ → ℕ → Answer Findings → List ℕ
+survey_line number verts faces (Ok s) = cell_line number verts faces s
+survey_line number verts faces (Err why) = refused_line number (number_of why)
 
 -- a cell's line: a record's refusal decides, and where there is none the survey of the cell
 unfoldable pub line_of : Held → List ℕ

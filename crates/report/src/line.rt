@@ -5,11 +5,18 @@ ghost use Rattle.lines.specs.Text.{Put};
 ghost use Rattle.records.specs.Tally.{Sized, Fits};
 ghost use Rattle.report.specs.Report.{held_of, line_of};
 
-use geometry::Surveyed;
+use geometry::Findings;
+use places::refusal::Refusal;
 use records::tally::Tally;
 
 // The survey of what the lists hold of the cell.
-fn found(t: Tally, coords: &[f64], corners: &[u32], ends: &[u32], queries: &[f64]) -> Surveyed
+fn found(
+    t: Tally,
+    coords: &[f64],
+    corners: &[u32],
+    ends: &[u32],
+    queries: &[f64],
+) -> Result<Findings, Refusal>
     requires sized { Sized coords.now corners.now ends.now queries.now }
     requires fits { Fits t }
     ensures { result ≡ survey_answer (take (t.verts * 3) coords.now) (take t.corners corners.now)
@@ -42,7 +49,7 @@ pub fn put_line(
         return lines::put_refused(out, at, t.number, t.refusal);
     }
     match found(t, coords, corners, ends, queries) {
-        Surveyed::Is(s) => lines::put_cell(out, at, t.number, t.verts, t.faces, s),
-        Surveyed::Refused(k) => lines::put_refused(out, at, t.number, k),
+        Ok(s) => lines::put_cell(out, at, t.number, t.verts, t.faces, s),
+        Err(why) => lines::put_refused(out, at, t.number, u8::from(why)),
     }
 }

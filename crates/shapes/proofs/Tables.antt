@@ -6,6 +6,7 @@ use mathlib.Core.List.{List, [], ◌∷◌, ◌++◌}
 use Prim.Native.Nat.{ℕ}
 use lib.ListN.{length, replicate, length-replicate}
 use lib.Ieee.{Float, of_bits, neg, le}
+use Rattle.places.specs.Refusals.{no_refusal}
 use Rattle.places.specs.Loops.{any_of}
 use Rattle.places.specs.Stored.{in_threes}
 use Rattle.places.proofs.Stored.{length_threes}
@@ -32,7 +33,7 @@ outside n rows = any_of (index_refused n) rows
 -- a cell with these corners and ends, and with as many coordinates that are
 -- all 0, is not refused; which numbers they are does not matter
 pub shape_sound : (n : ℕ) (coords : List Float) (corners ends : List ℕ) → length coords ≡ n
-    → refusal_of (replicate n zero64) corners ends [] [] ≡ 0 → Sound coords corners ends
+    → refusal_of (replicate n zero64) corners ends [] [] ≡ no_refusal → Sound coords corners ends
 shape_sound n coords corners ends e q =
     let zeros = replicate n zero64 in
     let s = sound zeros corners ends [] [] q in

@@ -1,16 +1,16 @@
 -- What part of a convex cell's volume lies in another, over the named answers of `geometry`.
-use Rattle.std.specs.Prelude.{ℕ, List, Float}
+use Rattle.std.specs.Prelude.{ℕ, List, Float, Ok, Err}
 use Rattle.floats.specs.F64.{◌/f◌}
-use Rattle.geometry.specs.declared.Number.{Number}
-use Rattle.geometry.specs.declared.Overlapped.{Overlapped}
+use Rattle.geometry.specs.declared.Shared.{Shared}
+use Rattle.geometry.specs.Answers.{Answer}
 use Rattle.geometry.specs.Cells.{volume_answer}
 use Rattle.geometry.specs.Clipping.{Measure, overlap_answer}
 
 -- an overlap's volume over a number, or the first refusal
-abbrev pub quotient_of : Overlapped → Number → Number
-quotient_of (Overlapped.Refused why) whole = Number.Refused why
-quotient_of (Overlapped.Is o) (Number.Refused why) = Number.Refused why
-quotient_of (Overlapped.Is o) (Number.Is y) = Number.Is (o.volume /f y)
+abbrev pub quotient_of : Answer Shared → Answer Float → Answer Float
+quotient_of (Err why) whole = Err why
+quotient_of (Ok o) (Err why) = Err why
+quotient_of (Ok o) (Ok y) = Ok (o.volume /f y)
 
 -- share: the volume that two cells share over that of the first, and both work lists as the overlap leaves them
 unfoldable pub share_answer : List Float → List ℕ → List ℕ → List Float → List ℕ → List ℕ → List Float → List Float → Measure

@@ -3,12 +3,24 @@
 
 ghost use Rattle.std.specs.Prelude.{◌≡◌, true, false, cond, ◌++◌, ◌-◌, ◌≤◌, length, take, replicate};
 ghost use Rattle.floats.specs.F64.{zero64};
+ghost use Rattle.places.specs.declared.refusal.Refusal.TheVariants.{Room};
 ghost use Rattle.work_lists.specs.WorkLists.{shorter_of};
 ghost use Rattle.work_lists.specs.Steps.{shown_numbers};
 
-// A work list has no room for what a step makes. Clipping knows no refusal numbers: `geometry` gives them.
+use places::refusal::Refusal;
+
+// A work list has no room for what a step makes.
 #[derive(Clone, Copy, Debug, PartialEq, Eq)]
 pub struct NoRoom;
+
+// An entry that has no room refuses for that reason.
+impl From<NoRoom> for Refusal {
+    ghost from_gives = { λ _ why. why ≡ Room };
+
+    fn from(_none: NoRoom) -> Refusal {
+        Refusal::Room
+    }
+}
 
 // What one plane or edge makes of an outline: it is left whole, nothing is left, or so many points are left in the other list.
 #[derive(Clone, Copy, Debug, PartialEq, Eq)]

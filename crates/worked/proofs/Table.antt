@@ -1,5 +1,6 @@
 -- The rows worked by hand are what the definitions give.
 use mathlib.Core.Path.{◌≡◌, refl}
+use Rattle.places.specs.Refusals.{no_refusal}
 use Rattle.cut.proofs.Computed as Cut
 use Rattle.inside.proofs.Computed as Inside
 use Rattle.clip_step.proofs.Computed as Trim
@@ -35,7 +36,7 @@ unfolding computed
 worked_beside = refl
 
 -- the table of SCOPE 3 does not refuse all: the unit cube passes, and with a query value above 2 ^ 40 it is refused 2
-pub cube_passes : refusal_of cube hex_corners hex_ends [] [] ≡ 0
+pub cube_passes : refusal_of cube hex_corners hex_ends [] [] ≡ no_refusal
 unfolding computed refusal_of first_row size_refused points_refused number_refused out_of_range ends_refused index_refused
 cube_passes = refl
 

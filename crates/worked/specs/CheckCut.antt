@@ -2,11 +2,14 @@
 -- cut takes apart by place, as two tables and one claim about the definitions. proofs/CheckCut.antt proves the claim by computing them.
 -- The check says yes to some lists and no to others: no to one with a triangle doubled, turned round or missing.
 use Rattle.std.specs.Prelude.{◌≡◌, true, false, List, [], ◌∷◌, ◌++◌, ℕ, length, replicate, Float}
+use Rattle.std.specs.Prelude.{Ok, Err}
+use Rattle.places.specs.declared.refusal.Refusal.{Refusal}
+use Rattle.places.specs.declared.refusal.Refusal.TheVariants.{Size, Index}
+use Rattle.geometry.specs.Answers.{Answer}
 use Rattle.floats.specs.F64.{zero64, one64, two64}
 use Rattle.places.specs.Stored.{joined}
 use Rattle.flat.specs.Points.{vertices_of}
 use Rattle.cut.specs.Cut.{cut_by_place}
-use Rattle.geometry.specs.declared.Truth.{Truth}
 use Rattle.geometry.specs.CheckCut.{check_cut_answer}
 use Rattle.demand3.specs.Demand3.{pieces}
 use Rattle.worked.specs.Table.{seven, tri, level}
@@ -16,26 +19,26 @@ use Rattle.worked.specs.Area.{letter_l}
 pub record Row : Type 0 where
   pub n : ℕ
   pub places : List ℕ
-  pub answer : Truth
+  pub answer : Answer Bool
 
 -- of every row, what the definitions give and what the row states
-abbrev pub given : List Row → List Truth
+abbrev pub given : List Row → List (Answer Bool)
 given [] = []
 given (r ∷ rs) = check_cut_answer r.n r.places ∷ given rs
 
-abbrev pub stated : List Row → List Truth
+abbrev pub stated : List Row → List (Answer Bool)
 stated [] = []
 stated (r ∷ rs) = r.answer ∷ stated rs
 
 -- rows that are accepted, not accepted, and refused
 abbrev yes : ℕ → List ℕ → Row
-yes n places = record { n = n; places = places; answer = Truth.Is true }
+yes n places = record { n = n; places = places; answer = Ok true }
 
 abbrev no : ℕ → List ℕ → Row
-no n places = record { n = n; places = places; answer = Truth.Is false }
+no n places = record { n = n; places = places; answer = Ok false }
 
-abbrev refused : ℕ → ℕ → List ℕ → Row
-refused why n places = record { n = n; places = places; answer = Truth.Refused why }
+abbrev refused : Refusal → ℕ → List ℕ → Row
+refused why n places = record { n = n; places = places; answer = Err why }
 
 abbrev pub table : List Row
 table =
@@ -69,16 +72,16 @@ table =
     -- seven corners: as many triangles as a cut has, two of which are back to back, and the side from 6 to 0 is missing
     ∷ no 7 (tri 0 1 2 ++ tri 2 3 4 ++ tri 4 5 6 ++ tri 1 3 5 ++ tri 1 5 3)
     -- 1 size: n, 255 triangles, and places not in threes
-    ∷ refused 1 0 []
-    ∷ refused 1 2 (tri 0 1 0)
-    ∷ refused 1 257 (tri 0 1 2)
-    ∷ refused 1 256 (replicate 765 0)
-    ∷ refused 1 4 (tri 0 1 2 ++ 0 ∷ 2 ∷ [])
+    ∷ refused Size 0 []
+    ∷ refused Size 2 (tri 0 1 0)
+    ∷ refused Size 257 (tri 0 1 2)
+    ∷ refused Size 256 (replicate 765 0)
+    ∷ refused Size 4 (tri 0 1 2 ++ 0 ∷ 2 ∷ [])
     -- 1 comes before 4
-    ∷ refused 1 4 (tri 0 1 4 ++ 9 ∷ [])
+    ∷ refused Size 4 (tri 0 1 4 ++ 9 ∷ [])
     -- 4 index: a place that is n, and one beyond it, even where there are too few triangles
-    ∷ refused 4 4 (tri 0 1 2 ++ tri 0 2 4)
-    ∷ refused 4 5 (9 ∷ 1 ∷ 2 ∷ [])
+    ∷ refused Index 4 (tri 0 1 2 ++ tri 0 2 4)
+    ∷ refused Index 5 (9 ∷ 1 ∷ 2 ∷ [])
     ∷ []
 
 -- ---- our own cut: a face over the vertices with these coordinates, its triangles by place and by vertex number, and whether the check
@@ -86,7 +89,7 @@ table =
 pub record Own : Type 0 where
   pub by_place : List (List ℕ)
   pub by_number : List (List ℕ)
-  pub answer : Truth
+  pub answer : Answer Bool
 
 abbrev pub own_of : List Float → List ℕ → Own
 own_of coords face =
@@ -110,19 +113,19 @@ own_stated =
     record {
       by_place = tri 5 0 1 ∷ tri 5 1 2 ∷ tri 5 2 3 ∷ tri 3 4 5 ∷ [];
       by_number = tri 4 0 1 ∷ tri 4 1 2 ∷ tri 4 2 3 ∷ tri 3 1 4 ∷ [];
-      answer = Truth.Is true;
+      answer = Ok true;
     }
     -- the letter L from its corner 3 on
     ∷ record {
       by_place = tri 0 1 2 ∷ tri 0 2 3 ∷ tri 5 0 3 ∷ tri 3 4 5 ∷ [];
       by_number = tri 3 4 5 ∷ tri 3 5 0 ∷ tri 2 3 0 ∷ tri 0 1 2 ∷ [];
-      answer = Truth.Is true;
+      answer = Ok true;
     }
     -- the seven corners of SCOPE 16, which are cut short: three triangles are not accepted
     ∷ record {
       by_place = tri 6 0 1 ∷ tri 6 1 2 ∷ tri 2 3 4 ∷ [];
       by_number = tri 6 0 1 ∷ tri 6 1 2 ∷ tri 2 3 4 ∷ [];
-      answer = Truth.Is false;
+      answer = Ok false;
     }
     ∷ []
 

@@ -3,22 +3,25 @@
 use Rattle.std.specs.Prelude.{◌≡◌, List, [], ◌∷◌, ◌++◌, pos, negsuc, Float}
 use Rattle.std.specs.Float.{binary64}
 use Rattle.std.specs.Float.Ieee.{of_bits, of_int}
+use Rattle.std.specs.Prelude.{Ok, Err}
+use Rattle.places.specs.declared.refusal.Refusal.TheVariants.{Inexact}
+use Rattle.geometry.specs.Answers.{Answer}
 use Rattle.floats.specs.F64.{zero64, one64, two64}
-use Rattle.geometry.specs.declared.Place.{Place}
+use Rattle.geometry.specs.declared.Point3.{Point3}
 use Rattle.geometry.specs.Points.{to_local_answer}
 
 -- ---- a row: a list of vertices, the answer, and the list afterwards
 pub record Row : Type 0 where
   pub coords : List Float
-  pub answer : Place
+  pub answer : Answer Point3
   pub after : List Float
 
 -- of every row, what the definition gives and what the row states
-abbrev pub given : List Row → List (Place × List Float)
+abbrev pub given : List Row → List (Answer Point3 × List Float)
 given [] = []
 given (r ∷ rs) = to_local_answer r.coords ∷ given rs
 
-abbrev pub stated : List Row → List (Place × List Float)
+abbrev pub stated : List Row → List (Answer Point3 × List Float)
 stated [] = []
 stated (r ∷ rs) = (r.answer, r.after) ∷ stated rs
 
@@ -91,17 +94,17 @@ rows =
     -- the thin box far from the origin comes to the origin by three whole numbers
     record {
       coords = box east north high east' north' high';
-      answer = Place.Is (record { x = east; y = north; z = high });
+      answer = Ok (record { x = east; y = north; z = high });
       after = box zero64 zero64 zero64 width quarter two64;
     }
     -- towards zero: −0.5 gives +0, 3.75 gives 3 and −7.25 gives −7
     ∷ record {
       coords = vertex minus_half fifteen_quarters minus_twenty_nine_quarters ++ vertex one64 two64 (of_int binary64 (pos 3));
-      answer = Place.Is (record { x = zero64; y = of_int binary64 (pos 3); z = of_int binary64 (negsuc 6) });
+      answer = Ok (record { x = zero64; y = of_int binary64 (pos 3); z = of_int binary64 (negsuc 6) });
       after = vertex minus_half three_quarters minus_quarter ++ vertex one64 (of_int binary64 (negsuc 0)) (of_int binary64 (pos 10));
     }
     -- a difference that is no f64 is refused 15, and the list is left
-    ∷ record { coords = wide; answer = Place.Refused 15; after = wide }
+    ∷ record { coords = wide; answer = Err Inexact; after = wide }
     ∷ []
 
 abbrev pub Claim : Type 0

@@ -1,8 +1,10 @@
 -- Request 3, 'Turn the backward faces', worked by hand: cells, and what turn_faces answers and leaves, as one table and one claim.
 -- proofs/TurnFaces.antt proves the claim: it computes the tests, and the laws of the promise do the rest.
 use Rattle.std.specs.Prelude.{List, [], ◌∷◌, ◌++◌, ℕ, Float}
+use Rattle.std.specs.Prelude.{Ok, Err}
+use Rattle.places.specs.declared.refusal.Refusal.TheVariants.{Sides, Choice}
+use Rattle.geometry.specs.Answers.{Answer}
 use Rattle.floats.specs.F64.{zero64, one64, two64}
-use Rattle.geometry.specs.declared.Count.{Count}
 use Rattle.geometry.specs.TurnFaces.{TurnFacesGives}
 use Rattle.demand3.specs.Cube.{cube, bottom, other_faces, hex_corners, hex_ends, backward_corners, torn_ends}
 
@@ -11,7 +13,7 @@ pub record Row : Type 0 where
   pub coords : List Float
   pub corners : List ℕ
   pub ends : List ℕ
-  pub answer : Count
+  pub answer : Answer ℕ
   pub after : List ℕ
 
 -- the promise holds of a row, and of every row
@@ -90,37 +92,37 @@ abbrev pub thin_corners : List ℕ
 thin_corners = hex_corners ++ 0 ∷ 0 ∷ 6 ∷ []
 
 -- ---- the rows
-abbrev row : List Float → List ℕ → List ℕ → Count → List ℕ → Row
+abbrev row : List Float → List ℕ → List ℕ → Answer ℕ → List ℕ → Row
 row coords corners ends answer after = record { coords = coords; corners = corners; ends = ends; answer = answer; after = after }
 
 abbrev pub table : List Row
 table =
     -- the unit cube of SCOPE 15 with the face 0 stored backward: that face keeps its direction, so the other five are reversed
-    row cube backward_corners hex_ends (Count.Is 5) inside_out
+    row cube backward_corners hex_ends (Ok 5) inside_out
     -- with one of the faces 1 to 5 stored backward: that face is reversed
-    ∷ row cube backward1 hex_ends (Count.Is 1) hex_corners
-    ∷ row cube backward2 hex_ends (Count.Is 1) hex_corners
-    ∷ row cube backward3 hex_ends (Count.Is 1) hex_corners
-    ∷ row cube backward4 hex_ends (Count.Is 1) hex_corners
-    ∷ row cube backward5 hex_ends (Count.Is 1) hex_corners
+    ∷ row cube backward1 hex_ends (Ok 1) hex_corners
+    ∷ row cube backward2 hex_ends (Ok 1) hex_corners
+    ∷ row cube backward3 hex_ends (Ok 1) hex_corners
+    ∷ row cube backward4 hex_ends (Ok 1) hex_corners
+    ∷ row cube backward5 hex_ends (Ok 1) hex_corners
     -- as it is: nothing is reversed
-    ∷ row cube hex_corners hex_ends (Count.Is 0) hex_corners
+    ∷ row cube hex_corners hex_ends (Ok 0) hex_corners
     -- two cubes, with the faces 4 and 8 stored backward: each group is turned by itself
-    ∷ row two_cubes (backward4 ++ second2) two_ends (Count.Is 2) (hex_corners ++ second)
+    ∷ row two_cubes (backward4 ++ second2) two_ends (Ok 2) (hex_corners ++ second)
     -- two cubes, with the face 6 stored backward: it is the lowest of its group, so the other five of the second cube are reversed
-    ∷ row two_cubes (hex_corners ++ second0) two_ends (Count.Is 5) (hex_corners ++ second_out)
+    ∷ row two_cubes (hex_corners ++ second0) two_ends (Ok 5) (hex_corners ++ second_out)
     -- the hemicube: both conditions hold, and no choice closes it
-    ∷ row cube hemicube hemi_ends (Count.Refused 12) hemicube
+    ∷ row cube hemicube hemi_ends (Err Choice) hemicube
     -- an open cube, without its face 0: four sides occur once
-    ∷ row cube other_faces torn_ends (Count.Refused 11) other_faces
+    ∷ row cube other_faces torn_ends (Err Sides) other_faces
     -- a face that holds a vertex twice
-    ∷ row cube bow bow_ends (Count.Refused 11) bow
+    ∷ row cube bow bow_ends (Err Sides) bow
     -- a face of 0 corners beside the cube: 5 is not given
-    ∷ row cube hex_corners (hex_ends ++ 24 ∷ []) (Count.Is 0) hex_corners
+    ∷ row cube hex_corners (hex_ends ++ 24 ∷ []) (Ok 0) hex_corners
     -- a face of one corner and one of two beside the cube: they have no side in common with any other face, and keep their direction
-    ∷ row cube thin_corners (hex_ends ++ 25 ∷ 27 ∷ []) (Count.Is 0) thin_corners
+    ∷ row cube thin_corners (hex_ends ++ 25 ∷ 27 ∷ []) (Ok 0) thin_corners
     -- no face at all
-    ∷ row cube [] [] (Count.Is 0) []
+    ∷ row cube [] [] (Ok 0) []
     ∷ []
 
 -- the claim

@@ -7,21 +7,21 @@ use Rattle.cell.proofs.Refusals.{empty_yes, empty_no}
 use borrow.Author.Rules.{rules}
 use Rattle.cell.proofs.empty_refused.Goals as goal
 
-pub loop-k-init : goal.loop-k-init
+pub loop-end-init : goal.loop-end-init
 unfolding empty_refused
-loop-k-init c =
+loop-end-init c =
     faces_start c.requires refl
 
 pub returns-then-start-end : goal.returns-then-start-end
 returns-then-start-end c =
-    faces_yes c.loop-k.invariant (search rules) c.corner-end.ensures.0
-    (empty_yes c.loop-k.start c.corner-end.result c.args.corners.now (search rules))
+    faces_yes c.loop-end.invariant (search rules) refl
+    (empty_yes c.loop-end.start _ c.args.corners.now (search rules))
 
-pub loop-k-preserved : goal.loop-k-preserved
-loop-k-preserved c =
-    let step = faces_step c.loop-k.invariant (search rules) c.corner-end.ensures.0 in
-    faces_no c.loop-k.invariant (search rules) c.corner-end.ensures.0
-    (empty_no c.loop-k.start c.corner-end.result c.args.corners.now step.from step.upto c.if-start-end.false)
+pub loop-end-preserved : goal.loop-end-preserved
+loop-end-preserved c =
+    let step = faces_step c.loop-end.invariant (search rules) refl in
+    faces_no c.loop-end.invariant (search rules) refl
+    (empty_no c.loop-end.start _ c.args.corners.now step.from step.upto c.if-start-end.false)
 
 pub returns : goal.returns
-returns c = faces_end c.loop-k.invariant (search rules)
+returns c = faces_end c.loop-end.invariant (search rules)

@@ -5,6 +5,6 @@ use Rattle.cell.proofs.Faces.{falls_start}
 use borrow.Author.Rules.{rules}
 use Rattle.cell.proofs.ends_refused.Goals as goal
 
-pub loop-k-init : goal.loop-k-init
+pub loop-end-init : goal.loop-end-init
 unfolding ends_refused
-loop-k-init c = (search rules, falls_start refl)
+loop-end-init c = (search rules, falls_start refl)

@@ -1,11 +1,8 @@
--- `cell::out_of_range` meets its contract: both comparisons are those of the definition, and the lower one decides first.
+-- `cell::out_of_range` meets its contract: its two comparisons are those of the definition, whichever way round they are written.
+use mathlib.Core.Path.{refl}
 use Rattle.cell.specs.Refusals.{out_of_range}
 use Rattle.cell.proofs.out_of_range.Goals as goal
 
-pub returns-then-x : goal.returns-then-x
+pub returns : goal.returns
 unfolding out_of_range
-returns-then-x c = rw c.if-x.true
-
-pub returns-else-x : goal.returns-else-x
-unfolding out_of_range
-returns-else-x c = rw c.if-x.false
+returns c = refl

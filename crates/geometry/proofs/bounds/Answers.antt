@@ -1,14 +1,13 @@
 -- `geometry::bounds` meets its contract: the room takes the box of the vertices, and its corners get names.
-use Rattle.geometry.specs.declared.Extent.{Extent}
 use Rattle.geometry.specs.Cells.{bounds_answer}
 use Rattle.geometry.proofs.Answers.{refused, passed}
 use Rattle.geometry.proofs.bounds.Goals as goal
 
-pub returns-then-why-ne0 : goal.returns-then-why-ne0
+pub returns-in_err-cell_refusal : goal.returns-in_err-cell_refusal
 unfolding bounds_answer
-returns-then-why-ne0 c = refused c.cell_refusal-why.ensures Extent.Refused _ c.if-why-ne0.true
+returns-in_err-cell_refusal c = refused _ c.from_residual.ensures.1 c.in_err-cell_refusal.ensures
 
 pub returns : goal.returns
 unfolding bounds_answer
 returns c =
-    passed c.cell_refusal-why.ensures _ c.if-why-ne0.false (cc)
+    passed c.in_ok-cell_refusal.ensures (cc)

@@ -11,9 +11,8 @@ use Rattle.cell.specs.Faces.{faces_of}
 use Rattle.cell.proofs.Faces.{length_faces}
 use Rattle.planes.specs.Planes.{no_area_faces}
 use Rattle.refusals.proofs.Refusals.{no_area_known}
-use Rattle.geometry.specs.declared.Done.{Done}
 use Rattle.geometry.specs.Cells.{no_area_faces_answer}
-use Rattle.geometry.proofs.Answers.{refused, passed}
+use Rattle.geometry.proofs.Answers.{refused_beside, passed_beside}
 use Rattle.geometry.proofs.no_area_faces.Goals as goal
 
 -- there is a number for each face
@@ -21,22 +20,29 @@ flags_many : (vs : List Point) (corners ends : List ℕ) → length (no_area_fac
 unfolding no_area_faces
 flags_many vs corners ends = length-map (faces_of corners ends) _ ∙ length_faces corners ends
 
-pub returns-then-why-ne0 : goal.returns-then-why-ne0
+pub returns-in_err-no_area_refusal : goal.returns-in_err-no_area_refusal
 unfolding no_area_faces_answer
-returns-then-why-ne0 c =
-    refused c.no_area_refusal-why.ensures (λ why. (Done.Refused why, c.args.out.now)) _ c.if-why-ne0.true
+returns-in_err-no_area_refusal c =
+    refused_beside _ c.from_residual.ensures.1 c.in_err-no_area_refusal.ensures
 
 pub slice_bounds-no_area_faces-end : goal.slice_bounds-no_area_faces-end
 slice_bounds-no_area_faces-end c =
     let args = c.args in
     (no_area_known args.coords.now args.corners.now args.ends.now (length args.out.now)
-    (sym c.no_area_refusal-why.ensures ∙ c.if-why-ne0.false)).1
+    (sym c.in_ok-no_area_refusal.ensures)).1
+
+pub slice_bounds-no_area_faces-end-2 : goal.slice_bounds-no_area_faces-end-2
+slice_bounds-no_area_faces-end-2 c =
+    let args = c.args in
+    let known = no_area_known args.coords.now args.corners.now args.ends.now (length args.out.now)
+    (sym c.in_ok-no_area_refusal.ensures) in
+    simp length-take (omega (arith, known.1))
 
 pub no_area_faces-requires : goal.no_area_faces-requires
 no_area_faces-requires c =
     let args = c.args in
     let known = no_area_known args.coords.now args.corners.now args.ends.now (length args.out.now)
-    (sym c.no_area_refusal-why.ensures ∙ c.if-why-ne0.false) in
+    (sym c.in_ok-no_area_refusal.ensures) in
     record { sound = known.0; out_len = simp length-take (omega (arith, known.1)) }
 
 pub returns : goal.returns
@@ -44,4 +50,4 @@ unfolding no_area_faces_answer
 returns c =
     let args = c.args in
     let size = flags_many (vertices_of args.coords.now) args.corners.now args.ends.now in
-    passed c.no_area_refusal-why.ensures _ c.if-why-ne0.false (rw (c.no_area_faces.ensures, size, sub-zero))
+    passed_beside c.args.out.now c.in_ok-no_area_refusal.ensures (rw (c.no_area_faces.ensures, size))

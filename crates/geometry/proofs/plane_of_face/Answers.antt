@@ -1,65 +1,46 @@
 -- `geometry::plane_of_face` meets its contract: a face that passes the checks has corners, all of them vertices, and the room computes
 -- its plane or finds that it has no area.
 use mathlib.Core.Path.{◌≡◌, sym, ◌∙◌}
-use mathlib.Core.List.{List}
-use Prim.Native.Nat.{ℕ}
-use Rattle.flat.specs.Points.{Point, vertices_of, corners_of}
-use Rattle.planes.specs.declared.PlaneOrNone.{PlaneOrNone}
-use Rattle.planes.specs.Planes.{PlaneOrNoArea, plane_of}
-use Rattle.planes.specs.Steps.{handed}
+use borrow.Author.Rules.{rules}
+use Rattle.std.specs.Prelude.{Option}
+use Rattle.std.specs.Option.{option_map}
+use Rattle.planes.specs.declared.Plane as planes
+use Rattle.planes.specs.Steps.{plane_if}
+use Rattle.planes.specs.Planes.{PlaneOrNoArea, no_area, has_plane, plane_of}
 use Rattle.refusals.proofs.Refusals.{SolidFace, face_known}
-use Rattle.planes.proofs.Faces.{handed_plane, handed_no_area}
-use Rattle.geometry.specs.declared.PlaneAnswer.{PlaneAnswer}
-use Rattle.geometry.specs.Cells.{face_numbered, without_plane, plane_of_face_answer}
+use Rattle.geometry.specs.Cells.{plane_shown, plane_told, plane_of_face_answer}
 use Rattle.geometry.proofs.Answers.{refused, passed}
-use borrow.Author.Tests.{not-true, not-false}
 use Rattle.geometry.proofs.plane_of_face.Goals as goal
-use Rattle.geometry.proofs.plane_of_face.Goals.{Else-why-ne0}
+use Rattle.geometry.proofs.plane_of_face.Goals.{In_ok-faces_refusal}
 
 -- what is known past the checks
-known : (c : Else-why-ne0) → SolidFace c.args.coords.now c.args.corners.now c.args.ends.now
+known : (c : In_ok-faces_refusal) → SolidFace c.args.coords.now c.args.corners.now c.args.ends.now
     c.args.face
 known c =
-    face_known c.args.coords.now c.args.corners.now c.args.ends.now c.args.face (sym
-    c.faces_refusal-why.ensures ∙ c.if-why-ne0.false)
+    face_known c.args.coords.now c.args.corners.now c.args.ends.now c.args.face (sym c.in_ok-faces_refusal.ensures)
 
-pub returns-then-why-ne0 : goal.returns-then-why-ne0
+-- what is shown of the plane that was found is what is told of it
+told_by : (found : PlaneOrNoArea) {p : Option planes.Plane} → p ≡ plane_if found → option_map plane_shown p ≡ plane_told found
+told_by no_area e = rw e
+told_by (has_plane p) e = rw e
+
+pub returns-in_err-faces_refusal : goal.returns-in_err-faces_refusal
 unfolding plane_of_face_answer
-returns-then-why-ne0 c =
-    c.without_plane.ensures
-    ∙ refused c.faces_refusal-why.ensures (λ why. without_plane (PlaneAnswer.Refused why)) _ c.if-why-ne0.true
+returns-in_err-faces_refusal c = refused _ c.from_residual.ensures.1 c.in_err-faces_refusal.ensures
 
 pub face_by_number-part-requires : goal.face_by_number-part-requires
 face_by_number-part-requires c =
-    let k = known (goal.at.face_by_number-part-requires c).Else-why-ne0 in
+    let k = known (goal.at.face_by_number-part-requires c).In_ok-faces_refusal in
     (k.ordered, k.there)
 
-pub plane_of_face-found-requires : goal.plane_of_face-found-requires
-plane_of_face-found-requires c =
-    let k = known (goal.at.plane_of_face-found-requires c).Else-why-ne0 in
+pub plane_of_face-requires : goal.plane_of_face-requires
+plane_of_face-requires c =
+    let k = known (goal.at.plane_of_face-requires c).In_ok-faces_refusal in
     rw c.face_by_number-part.ensures (record { inside = k.inside; face_nonzero = k.some })
-
--- the plane of the face that is asked for, or no area
-abbrev asked_for : Else-why-ne0 → PlaneOrNoArea
-asked_for c =
-    plane_of (corners_of (vertices_of c.args.coords.now) (face_numbered c.args.corners.now c.args.ends.now c.args.face))
-
-of_face_lem : (vs : List Point) {face other : List ℕ} {found : PlaneOrNone} → face ≡ other → found ≡ handed (plane_of (corners_of vs face))
-    → found ≡ handed (plane_of (corners_of vs other))
-of_face_lem vs e q = rw (← e) q
-
-pub returns-then-not-found : goal.returns-then-not-found
-unfolding plane_of_face_answer
-returns-then-not-found c =
-    let is = handed_no_area (asked_for (goal.at.returns-then-not-found c).Else-why-ne0)
-    (of_face_lem _ c.face_by_number-part.ensures c.plane_of_face-found.ensures)
-    (not-true _ c.if-not-found.true) in
-    passed c.faces_refusal-why.ensures _ c.if-why-ne0.false (rw is c.without_plane-then-not-found.ensures)
 
 pub returns : goal.returns
 unfolding plane_of_face_answer
 returns c =
-    let is = handed_plane (asked_for (goal.at.returns c).Else-why-ne0)
-    (of_face_lem _ c.face_by_number-part.ensures c.plane_of_face-found.ensures)
-    (not-false _ c.if-not-found.false) in
-    passed c.faces_refusal-why.ensures _ c.if-why-ne0.false (rw is)
+    let found = rw c.face_by_number-part.ensures at c.plane_of_face.ensures in
+    let told = told_by (plane_of _) found in
+    passed c.in_ok-faces_refusal.ensures (search (rules, told))

@@ -20,8 +20,8 @@ face-face-requires c =
     let step = gather_step c.loop-end.invariant.1 (omega arith) refl in
     (step.from, step.upto)
 
-pub plane_if_area-requires : goal.plane_if_area-requires
-plane_if_area-requires c =
+pub plane_of_face-requires : goal.plane_of_face-requires
+plane_of_face-requires c =
     rw c.face-face.ensures
     record {
       inside = each_slice _ _ c.args.corners.now c.requires.sound.inside;
@@ -30,9 +30,9 @@ plane_if_area-requires c =
 
 pub loop-end-preserved : goal.loop-end-preserved
 loop-end-preserved c =
-    let answer = rw c.face-face.ensures at c.plane_if_area.ensures in
+    let answer = rw c.face-face.ensures at c.plane_of_face.ensures in
     let laid = c.loop-end.invariant.1 in
-    elim c.match-plane_if_area.branch [
+    elim c.match-plane_of_face.branch [
       | in-Some w ↦ rw (w.out-is, w.m-is)
           (search rules, gather_one laid (omega arith) refl (answered_plane _ (sym w.in-Some.is ∙ answer)) w.put_plane.ensures)
       | in_default w ↦ rw (w.out-is, w.m-is)

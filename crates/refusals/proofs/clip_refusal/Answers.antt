@@ -8,14 +8,14 @@ pub returns-then-planes_refused : goal.returns-then-planes_refused
 unfolding clip_refusal
 returns-then-planes_refused c = size_yes _ c.planes_refused.ensures c.if-planes_refused.true
 
-pub returns-then-size-ne0 : goal.returns-then-size-ne0
+pub returns-in_err-works_refusal : goal.returns-in_err-works_refusal
 unfolding clip_refusal
-returns-then-size-ne0 c =
+returns-in_err-works_refusal c =
     size_no _ c.planes_refused.ensures c.if-planes_refused.false
-    (or_found _ c.works_refusal-size.ensures c.if-size-ne0.true)
+    (or_found _ c.from_residual.ensures.1 c.in_err-works_refusal.ensures)
 
 pub returns : goal.returns
 unfolding clip_refusal
 returns c =
     size_no _ c.planes_refused.ensures c.if-planes_refused.false
-    (or_other _ c.works_refusal-size.ensures c.if-size-ne0.false c.face_refusal.ensures)
+    (or_other _ c.in_ok-works_refusal.ensures c.face_refusal.ensures)

@@ -4,17 +4,17 @@ use Rattle.refusals.specs.Refusals.{overlap_refusal}
 use Rattle.refusals.proofs.Refusals.{or_found, or_other}
 use Rattle.refusals.proofs.overlap_refusal.Goals as goal
 
-pub returns-then-size-ne0 : goal.returns-then-size-ne0
+pub returns-in_err-works_refusal : goal.returns-in_err-works_refusal
 unfolding overlap_refusal
-returns-then-size-ne0 c = or_found _ c.works_refusal-size.ensures c.if-size-ne0.true
+returns-in_err-works_refusal c = or_found _ c.from_residual.ensures.1 c.in_err-works_refusal.ensures
 
-pub returns-then-why-ne0 : goal.returns-then-why-ne0
+pub returns-in_err-faces_refusal : goal.returns-in_err-faces_refusal
 unfolding overlap_refusal
-returns-then-why-ne0 c =
-    or_other _ c.works_refusal-size.ensures c.if-size-ne0.false (or_found _ c.faces_refusal-why.ensures c.if-why-ne0.true)
+returns-in_err-faces_refusal c =
+    or_other _ c.in_ok-works_refusal.ensures (or_found _ c.from_residual-in_err-faces_refusal.ensures.1 c.in_err-faces_refusal.ensures)
 
 pub returns : goal.returns
 unfolding overlap_refusal
 returns c =
-    or_other _ c.works_refusal-size.ensures c.if-size-ne0.false
-    (or_other _ c.faces_refusal-why.ensures c.if-why-ne0.false c.faces_refusal.ensures)
+    or_other _ c.in_ok-works_refusal.ensures
+    (or_other _ c.in_ok-faces_refusal.ensures c.faces_refusal-2.ensures)

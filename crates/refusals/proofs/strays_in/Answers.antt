@@ -5,12 +5,12 @@ use Rattle.refusals.specs.Refusals.{strays}
 use borrow.Author.Rules.{rules}
 use Rattle.refusals.proofs.strays_in.Goals as goal
 
-pub loop-i-init : goal.loop-i-init
-loop-i-init c = take_start (any_taken (strays _) _)
+pub loop-c-init : goal.loop-c-init
+loop-c-init c = take_start (any_taken (strays _) _)
 
-pub loop-i-preserved : goal.loop-i-preserved
-loop-i-preserved c =
-    take_next 0 c.loop-i.invariant (search rules) (cc)
+pub loop-c-preserved : goal.loop-c-preserved
+loop-c-preserved c =
+    take_next 0 c.loop-c.invariant (search rules) (cc)
 
 pub returns : goal.returns
-returns c = take_end c.loop-i.invariant (search rules)
+returns c = take_end c.loop-c.invariant (search rules)

@@ -8,17 +8,17 @@ use Rattle.refusals.specs.Refusals.{turn_faces_refusal}
 use Rattle.refusals.proofs.Refusals.{or_found, or_other}
 use Rattle.refusals.proofs.turn_faces_refusal.Goals as goal
 
-pub returns-then-why-ne0 : goal.returns-then-why-ne0
+pub returns-in_err-cell_refusal : goal.returns-in_err-cell_refusal
 unfolding turn_faces_refusal
-returns-then-why-ne0 c = or_found _ c.cell_refusal-why.ensures c.if-why-ne0.true
+returns-in_err-cell_refusal c = or_found _ c.from_residual.ensures.1 c.in_err-cell_refusal.ensures
 
 pub refusal-requires : goal.refusal-requires
 refusal-requires c =
-    let s = sound c.args.coords.now c.args.corners.now c.args.ends.now [] [] (sym c.cell_refusal-why.ensures ∙ c.if-why-ne0.false) in
+    let s = sound c.args.coords.now c.args.corners.now c.args.ends.now [] [] (sym c.in_ok-cell_refusal.ensures) in
     rw (← length_threes c.args.coords.now)
     (record { each = (s.inside, s.few); corners_len_bound = (s.few_corners, s.ordered, s.few_faces) })
 
 pub returns : goal.returns
 unfolding turn_faces_refusal
 returns c =
-    or_other _ c.cell_refusal-why.ensures c.if-why-ne0.false c.refusal.ensures
+    or_other _ c.in_ok-cell_refusal.ensures c.refusal.ensures

@@ -1,24 +1,21 @@
--- `refusals::works_refusal` meets its contract: the one row of the definition asks for either list; the code asks for the first and, where
--- that is not refused, for the second.
-use mathlib.Core.Path.{sym, ◌∙◌}
-use Rattle.cell.proofs.Refusals.{row_applies, row_passed, no_row}
-use Rattle.refusals.specs.Refusals.{works_refusal}
-use Rattle.refusals.proofs.Refusals.{either_first, either_second}
+-- `refusals::works_refusal` meets its contract: the one row of the definition asks for either list, as the code does.
+use mathlib.Core.Path.{◌≡◌, sym, ◌∙◌}
+use mathlib.Core.Bool.{◌||◌}
+use Rattle.cell.proofs.Refusals.{no_row}
+use Rattle.refusals.specs.Refusals.{work_refused, works_refusal}
+use Rattle.places.specs.declared.refusal.Refusal.TheVariants.{Size}
+use Rattle.refusals.proofs.Refusals.{row_yes, row_no}
 use Rattle.refusals.proofs.works_refusal.Goals as goal
+use Rattle.refusals.proofs.works_refusal.Goals.{After-work_refused-2}
+
+-- the code asks for both lists as the definition does
+asked : (c : After-work_refused-2) → c.work_refused.result || c.work_refused-2.result ≡ work_refused c.args.first.now || work_refused c.args.second.now
+asked c = rw (c.work_refused.ensures, c.work_refused-2.ensures)
 
 pub returns-then-work_refused : goal.returns-then-work_refused
 unfolding works_refusal
-returns-then-work_refused c = row_applies 1 _ (either_first _ c.work_refused.ensures c.if-work_refused.true)
-
-pub returns-then-work_refused-2 : goal.returns-then-work_refused-2
-unfolding works_refusal
-returns-then-work_refused-2 c =
-    row_applies 1 _
-    (either_second _ c.work_refused.ensures c.if-work_refused.false (sym c.work_refused-2.ensures ∙ c.if-work_refused-2.true))
+returns-then-work_refused c = row_yes Size _ (asked (goal.at.returns-then-work_refused c).After-work_refused-2) c.if-work_refused.true
 
 pub returns : goal.returns
 unfolding works_refusal
-returns c =
-    row_passed 1 _
-    (either_second _ c.work_refused.ensures c.if-work_refused.false (sym c.work_refused-2.ensures ∙ c.if-work_refused-2.false))
-    no_row
+returns c = row_no Size _ (asked (goal.at.returns c).After-work_refused-2) c.if-work_refused.false no_row

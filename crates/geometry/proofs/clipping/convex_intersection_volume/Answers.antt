@@ -1,22 +1,22 @@
 -- `geometry::clipping::convex_intersection_volume` meets its contract: cells that pass the checks are sound and have no empty face, the
 -- work lists are short enough, and the room clears them.
 use mathlib.Core.Path.{sym, ap, ◌∙◌}
+use Rattle.std.specs.Prelude.{Ok}
+use Rattle.places.proofs.Refusals.{handed_on}
 use Rattle.refusals.proofs.Refusals.{overlap_known}
 use Rattle.geometry.specs.Clipping.{shared_answer, overlap_answer}
-use Rattle.geometry.specs.declared.Overlapped.{Overlapped}
-use Rattle.geometry.proofs.Answers.{refused}
+use Rattle.geometry.proofs.Answers.{refused_beside_two}
 use Rattle.geometry.proofs.WorkLists.{measure_passed}
 use Rattle.geometry.proofs.clipping.convex_intersection_volume.Goals as goal
 
-pub returns-then-why-ne0 : goal.returns-then-why-ne0
+pub returns-in_err-overlap_refusal : goal.returns-in_err-overlap_refusal
 unfolding overlap_answer
-returns-then-why-ne0 c =
-    refused c.overlap_refusal-why.ensures (λ why. (Overlapped.Refused why, c.args.first.now, c.args.second.now)) _
-    c.if-why-ne0.true
+returns-in_err-overlap_refusal c =
+    refused_beside_two _ c.from_residual.ensures.1 c.in_err-overlap_refusal.ensures
 
-pub convex_intersection_volume-o-requires : goal.convex_intersection_volume-o-requires
-convex_intersection_volume-o-requires c =
-    let passed = sym c.overlap_refusal-why.ensures ∙ c.if-why-ne0.false in
+pub convex_intersection_volume-requires : goal.convex_intersection_volume-requires
+convex_intersection_volume-requires c =
+    let passed = sym c.in_ok-overlap_refusal.ensures in
     let known = overlap_known c.args.coords.now c.args.corners.now c.args.ends.now
     c.args.coords2.now c.args.corners2.now c.args.ends2.now c.args.first.now c.args.second.now passed in record {
       solid = record { sound = known.one.sound; no_empty = known.one.solid };
@@ -24,9 +24,16 @@ convex_intersection_volume-o-requires c =
       first_len_bound = (known.first_few, known.second_few);
     }
 
+pub returns-in_err-shared : goal.returns-in_err-shared
+unfolding overlap_answer
+returns-in_err-shared c =
+    measure_passed _ c.args.first.now c.args.second.now c.in_ok-overlap_refusal.ensures
+    (handed_on c.from_residual-in_err-shared.ensures.1 ∙ ap shared_answer c.in_err-shared.ensures.value)
+    c.in_err-shared.ensures.first_after.0 c.in_err-shared.ensures.first_after.1
+
 pub returns : goal.returns
 unfolding overlap_answer
 returns c =
-    measure_passed _ Overlapped.Refused c.args.first.now c.args.second.now c.overlap_refusal-why.ensures
-    c.if-why-ne0.false (c.shared.ensures ∙ ap shared_answer c.convex_intersection_volume-o.ensures.value)
-    c.convex_intersection_volume-o.ensures.first_after.0 c.convex_intersection_volume-o.ensures.first_after.1
+    measure_passed _ c.args.first.now c.args.second.now c.in_ok-overlap_refusal.ensures
+    (ap (λ x. Ok x) c.from.ensures ∙ ap shared_answer c.in_ok-shared.ensures.value)
+    c.in_ok-shared.ensures.first_after.0 c.in_ok-shared.ensures.first_after.1

@@ -1,7 +1,7 @@
 -- `report::line::put_line` meets its contract: a refusal in the tally decides the line, and where there is none the survey's answer does,
 -- as the definition has it.
 use Rattle.report.specs.Report.{held_of}
-use Rattle.geometry.specs.declared.Surveyed.TheVariants.{Is, Refused}
+use Rattle.std.specs.Prelude.{Ok, Err}
 use Rattle.report.proofs.Taken.{line_refused, line_found}
 use Rattle.report.proofs.line.put_line.Goals as goal
 
@@ -10,13 +10,13 @@ returns-then-t-ne0-clause-put c =
     let held = held_of c.args.t c.args.coords.now c.args.corners.now c.args.ends.now c.args.queries.now in
     line_refused held c.if-t-ne0.true c.put_refused.ensures.put
 
-pub returns-in-Is-clause-put : goal.returns-in-Is-clause-put
-returns-in-Is-clause-put c =
+pub returns-in-Ok-clause-put : goal.returns-in-Ok-clause-put
+returns-in-Ok-clause-put c =
     let held = held_of c.args.t c.args.coords.now c.args.corners.now c.args.ends.now c.args.queries.now in
-    line_found held c.found.result (Is c.in-Is.s) c.if-t-ne0.false c.found.ensures c.in-Is.is c.put_cell.ensures.put
+    line_found held c.found.result (Ok c.in-Ok.s) c.if-t-ne0.false c.found.ensures c.in-Ok.is c.put_cell.ensures.put
 
-pub returns-in-Refused-clause-put : goal.returns-in-Refused-clause-put
-returns-in-Refused-clause-put c =
+pub returns-in-Err-clause-put : goal.returns-in-Err-clause-put
+returns-in-Err-clause-put c =
     let held = held_of c.args.t c.args.coords.now c.args.corners.now c.args.ends.now c.args.queries.now in
-    line_found held c.found.result (Refused c.in-Refused.k) c.if-t-ne0.false c.found.ensures c.in-Refused.is
-    c.put_refused-in-Refused.ensures.put
+    line_found held c.found.result (Err c.in-Err.why) c.if-t-ne0.false c.found.ensures c.in-Err.is
+    (rw c.from.ensures at c.put_refused-in-Err.ensures.put)

@@ -1,12 +1,12 @@
--- `planes::plane_if_area` meets its contract: where the Newell sums are all 0 the face has no area; else the first corner, the offset and
+-- `planes::plane_of_face` meets its contract: where the Newell sums are all 0 the face has no area; else the first corner, the offset and
 -- the unit plane are the definition's steps.
 use mathlib.Core.Path.{sym, ◌∙◌}
 use mathlib.Core.List.{List}
 use Rattle.flat.specs.Points.{Point, vertices_of, corners_of}
 use Rattle.planes.specs.Planes.{has_no_area, newell_plane}
 use Rattle.planes.proofs.Faces.{plane_with_area, plane_without_area}
-use Rattle.planes.proofs.plane_if_area.Goals as goal
-use Rattle.planes.proofs.plane_if_area.Goals.{After-face_normal-n}
+use Rattle.planes.proofs.plane_of_face.Goals as goal
+use Rattle.planes.proofs.plane_of_face.Goals.{After-face_normal-n}
 
 -- the points of the face
 abbrev points : After-face_normal-n → List Point

@@ -15,7 +15,8 @@ ghost use Rattle.side_table.specs.Numbers.{Known, Numbered, entry_of};
 ghost use Rattle.shared_sides.specs.Steps.{mark_of, face_of, down_of, mark_at, marks_in, marks_from, Left, Ready, first_at, second_at};
 ghost use Rattle.shared_sides.specs.Steps.{lonely, lonely_face, lonely_faces, Mates};
 
-// The mark of the face f at a side that it runs up, from the lower vertex to the higher, or down.
+// The mark of the face f at a side that it runs up, from the lower vertex to the higher, or down. It is a number, and 0 is none: the table
+// has fixed memory for 65,536 of them, and an enum would take twice as much.
 fn mark(f: usize, down: bool) -> u16
     requires { f < most_faces }
     ensures { (result ≡ mark_of f down) × (0 < result) }
@@ -44,7 +45,8 @@ pub fn is_down(m: u16) -> bool
     m >= 257
 }
 
-// One more mark at the side between a lower and a higher vertex; false where there are two already.
+// One more mark at the side between a lower and a higher vertex; false where there are two already. The table that is written to stays an
+// argument beside the numbers: Rattle has no ghost field beside a `&mut`, and what holds of the table holds only between two marks.
 fn put(table: &mut [u16], number: &[u16], k: usize, low: usize, high: usize, m: u16) -> bool
     requires ready { Ready number.now k table.old }
     requires known { Known number.now k low × Known number.now k high × (low < high) × (0 < m) }

@@ -6,7 +6,6 @@ use mathlib.Core.Bool.{Bool, true, false, true≢false}
 use mathlib.Core.List.{List, [], ◌∷◌}
 use Prim.Native.Nat.{ℕ, zero, suc, ◌+◌, ◌*◌, ◌/◌, ◌^◌, ◌<◌, ◌≤◌}
 use native.Mathlib.Omega.{arith}
-use borrow.Author.Tests.{eq-eqb}
 use lib.Dec.{T}
 use lib.ListN.{length, get_or, length-map}
 use lib.IntN.{ℤ, pos, nat_abs, ◌-ℤ◌, ◌*ℤ◌, -ℤ-+ℤ_cancel}
@@ -16,7 +15,6 @@ use lib.Ieee.Scale.{finite}
 use Rattle.std.specs.Prelude.{Ok, Err}
 use Rattle.places.specs.declared.refusal.Refusal.TheVariants.{Size, Number, Inexact}
 use Rattle.places.specs.Refusals.{no_refusal}
-use Rattle.places.specs.declared.refusal.Refusal.TheVariants.{Inexact}
 use Rattle.places.specs.Lists.{Each}
 use Rattle.places.specs.Loops.{any_of}
 use Rattle.places.specs.Stored.{joined}
@@ -41,7 +39,7 @@ use Rattle.local.proofs.Exact.{whole_is, whole_near, whole_small, not_lost, less
 use Rattle.volume.specs.Triangles.{triangles_of}
 use Rattle.refusals.specs.Refusals.{first_refusal, list_refusal, local_refusal, cell_refusal}
 use Rattle.refusals.proofs.Refusals.{list_points, list_counted, list_numbers, local_zero}
-use Rattle.geometry.specs.Answers.{Answer, named3}
+use Rattle.geometry.specs.Answers.{named3}
 use Rattle.geometry.specs.Cells.{closed_answer}
 use Rattle.geometry.specs.Points.{to_local_answer}
 use Rattle.demand3.specs.Demand3.{exact_point, place_of, Premises}

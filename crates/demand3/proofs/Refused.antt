@@ -56,7 +56,8 @@ row_0 false true = (λ e. absurd cc, λ p. absurd (false≢true (sym p.1)))
 row_0 false false = (λ e. (refl, refl), λ p. refl)
 
 -- what the first does not give is given by the second, where the first passes
-pub second : (first rest r : Check) → (first ≢ no_refusal → first ≢ r) → (first_refusal first rest ≡ r) ↔ ((first ≡ no_refusal) × (rest ≡ r))
+pub second : (first rest r : Check) → (first ≢ no_refusal → first ≢ r)
+    → (first_refusal first rest ≡ r) ↔ ((first ≡ no_refusal) × (rest ≡ r))
 unfolding first_refusal
 second (Ok _) rest r n = (λ e. (refl, e), λ p. p.1)
 second (Err why) rest r n = (λ e. absurd (n (λ z. cc) e), λ p. absurd (let z = p.0 in cc))

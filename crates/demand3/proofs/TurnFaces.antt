@@ -1,13 +1,11 @@
 -- What specs/TurnFaces.antt states of turning the backward faces follows from the promise: the choice is unique, the faces of the turned
--- list
--- are the faces before, reversed by it, and the rest is demand 3 and the refusals.
+-- list are the faces before, reversed by it, and the rest is demand 3 and the refusals.
 use mathlib.Core.Path.{◌≡◌, refl, sym, ◌∙◌, ap}
-use mathlib.Core.Bool.{Bool, true, false, not, cond}
+use mathlib.Core.Bool.{Bool, true, false, not}
 use mathlib.Core.List.{List, [], ◌∷◌}
 use Prim.Native.Nat.{ℕ, suc}
 use native.Mathlib.Omega.{arith}
-use borrow.Author.Tests.{eqb-true, eq-eqb}
-use lib.Dec.{T, eqb, ltb}
+use lib.Dec.{T, ltb}
 use lib.ListN.{length}
 use lib.Ieee.{Float}
 use Rattle.std.specs.Prelude.{Ok, Err}
@@ -32,12 +30,12 @@ use Rattle.cell.proofs.Refusals.{sound}
 use Rattle.facing.proofs.Reversed.{joined_faces, length_reversed, faces_reversed, accepted_reversed}
 use Rattle.volume.specs.Triangles.{triangles_of}
 use Rattle.refusals.specs.Refusals.{cell_refusal, turn_faces_refusal}
-use Rattle.geometry.specs.Answers.{Answer, answered}
+use Rattle.geometry.specs.Answers.{answered}
 use Rattle.geometry.specs.TurnFaces.{TurnFacesGives}
 use Rattle.geometry.specs.Listed.{Reply, told, written, of_count}
 use Rattle.demand3.specs.Demand3.{Premises, place_of}
 use Rattle.demand3.specs.TurnFaces.{OneOutcome, OneOutcomeTold, RefusedLeaves, Success, Succeeds, ClosedAlready, TwiceIsOnce}
-use Rattle.demand3.specs.TurnFaces.{OnlyFullCuts, WholeGroups, SignAlone, TurnFacesFacts}
+use Rattle.demand3.specs.TurnFaces.{Closing, OnlyFullCuts, WholeGroups, SignAlone, TurnFacesFacts}
 use Rattle.demand3.proofs.Demand3.{sums}
 use Rattle.demand3.proofs.Refused.{refuses}
 
@@ -144,7 +142,9 @@ module _ (coords : List Float) (corners ends : List ℕ) where
       is_closed = (closed_test fs).0 closed
 
       none_refuses : why ≡ no_refusal
-      none_refuses = (refuses coords corners ends).none.1 (cell, fit, record { choice = λ k. false; closes = rw (nothing_faces fs) is_closed })
+      none_refuses =
+          let closing : Closing fs = record { choice = λ k. false; closes = rw (nothing_faces fs) is_closed } in
+          (refuses coords corners ends).none.1 (cell, fit, closing)
 
       still : TurnFacesGives coords corners ends (Ok 0) corners
       still = record {

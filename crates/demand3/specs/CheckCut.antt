@@ -2,9 +2,7 @@
 -- When a list of triangles is a cut of a face of n corners is said in cut_check/specs/CutCheck.antt, `IsCut`; what `check_cut` answers, in
 -- geometry/specs/CheckCut.antt. Triangles are given by place, our own cut's included: `cut_by_place` (cut/specs/Cut.antt) is the one cut,
 -- with each corner by its place in the face, and `ByPlace` there says that the numbers looked up give `cut_of`.
-use Rattle.std.specs.Prelude.{◌≡◌, ◌↔◌, true, List, map, ℕ, ◌+◌, ◌≤◌, length, take, Float}
-use Rattle.std.specs.Prelude.{Ok, Err}
-use Rattle.geometry.specs.Answers.{Answer}
+use Rattle.std.specs.Prelude.{◌≡◌, ◌↔◌, true, List, map, ℕ, ◌+◌, ◌≤◌, length, take, Float, Ok}
 use Rattle.places.specs.Limits.{most_checked_corners}
 use Rattle.places.specs.Ring.{places_below}
 use Rattle.places.specs.Stored.{in_threes, joined}
@@ -12,6 +10,7 @@ use Rattle.exact.specs.Space.{V3, area, areas}
 use Rattle.flat.specs.Points.{Point}
 use Rattle.cut.specs.Cut.{cut_by_place, ring_at}
 use Rattle.geometry.specs.declared.CutCounts.{CutCounts}
+use Rattle.geometry.specs.Answers.{Answer}
 use Rattle.geometry.specs.Cells.{face_numbered, triangles_answer, triangle_places_answer}
 use Rattle.geometry.specs.CheckCut.{check_cut_answer}
 use Rattle.demand3.specs.Demand3.{Full}

@@ -1,9 +1,8 @@
 -- `to_local` moves a list of vertices, and nothing exact about a cell changes but where it is: SCOPE 19, sentence by sentence, in whole
 -- numbers scaled by 2 ^ 1074. It holds of every list that `to_local` does not refuse.
-use Rattle.std.specs.Prelude.{◌≡◌, ◌↔◌, true, false, List, [], ℕ, ◌^◌, ◌<◌, T, length, ℤ, pos, nat_abs, ◌-ℤ◌, ◌*ℤ◌, Float}
+use Rattle.std.specs.Prelude.{◌≡◌, ◌↔◌, true, false, List, [], ℕ, ◌^◌, ◌<◌, T, length, ℤ, pos, nat_abs, ◌-ℤ◌, ◌*ℤ◌, Float, Ok, Err}
 use Rattle.std.specs.Float.{nan, binary64}
 use Rattle.std.specs.Float.Ieee.{fits}
-use Rattle.std.specs.Prelude.{Ok, Err}
 use Rattle.places.specs.Refusals.{no_refusal}
 use Rattle.places.specs.declared.refusal.Refusal.TheVariants.{Number, Inexact}
 use Rattle.places.specs.Lists.{Each}
@@ -16,7 +15,7 @@ use Rattle.cell.specs.Refusals.{number_refused}
 use Rattle.local.specs.Local.{origin_of, moved_by}
 use Rattle.volume.specs.Triangles.{triangles_of}
 use Rattle.refusals.specs.Refusals.{list_refusal, local_refusal}
-use Rattle.geometry.specs.Answers.{Answer, named3}
+use Rattle.geometry.specs.Answers.{named3}
 use Rattle.geometry.specs.Cells.{closed_answer}
 use Rattle.geometry.specs.Points.{to_local_answer}
 use Rattle.demand3.specs.Demand3.{exact_point, place_of, Premises}
@@ -86,7 +85,7 @@ MovedTwice =
     → let list = (to_local_answer coords).1 in number_refused list ≡ false
     → to_local_answer list ≡ (Ok (named3 (point_by 3 (λ k. zero64))), list)
 
--- in that case it refuses the moved list 2, and leaves it
+-- in that case it refuses the moved list 2, `Number`, and leaves it
 abbrev pub MovedBeyond : Type 0
 MovedBeyond =
     (coords : List Float) → local_refusal coords ≡ no_refusal → let list = (to_local_answer coords).1 in number_refused list ≡ true
@@ -106,7 +105,7 @@ pub record AllExact (coords : List Float) : Type 0 where
       → (d : Float) × T (fits binary64 d)
       × (exact_of d ≡ exact_of (at (vertex_of (unmoved coords) v) k) -ℤ exact_of (at (origin_of (unmoved coords)) k))
 
--- the list is refused 15 exactly where it passes 1 and 2 and not every difference is an f64
+-- the list is refused 15, `Inexact`, exactly where it passes 1 and 2 and not every difference is an f64
 abbrev pub Fifteen : Type 0
 Fifteen =
     (coords : List Float) → F64s coords → (local_refusal coords ≡ Err Inexact)

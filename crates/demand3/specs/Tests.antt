@@ -1,12 +1,11 @@
 -- Request 10, 'How long can one face take?', of the two entries that cut a face. The count of tests is part of the one cut
 -- (cut/specs/Cut.antt), and its ceiling, for every list of points and every face, is `TestsWithin` (cut/specs/Tests.antt).
-use Rattle.std.specs.Prelude.{◌≡◌, List, ℕ, ◌≤◌, length, Float}
-use Rattle.std.specs.Prelude.{Ok, Err}
-use Rattle.geometry.specs.Answers.{Answer}
+use Rattle.std.specs.Prelude.{◌≡◌, List, ℕ, ◌≤◌, length, Float, Ok}
 use Rattle.flat.specs.Points.{vertices_of}
 use Rattle.cut.specs.Cut.{cut_of}
 use Rattle.cut.specs.Tests.{most_tests}
 use Rattle.geometry.specs.declared.CutCounts.{CutCounts}
+use Rattle.geometry.specs.Answers.{Answer}
 use Rattle.geometry.specs.Cells.{face_numbered, triangles_answer, triangle_places_answer}
 
 -- 'It equals the count of such tests in the cutting definition and is at most n² + n − 12 for n ≥ 3, and 0 below': what an entry answers

@@ -2,9 +2,7 @@
 -- `TurnFacesGives`.
 -- `TurnFacesGives coords corners ends r after` says: on the cell with these lists it answers r, and the corner list is `after` afterwards.
 -- The answer is `Ok n` where n faces were reversed, and `Err why` where the call is refused.
-use Rattle.std.specs.Prelude.{◌≡◌, ◌↔◌, ◌≢◌, ◌⊎◌, Bool, true, false, not, List, [], ℕ, length, get_or, neg_ℤ, Float}
-use Rattle.std.specs.Prelude.{Ok, Err}
-use Rattle.geometry.specs.Answers.{Answer}
+use Rattle.std.specs.Prelude.{◌≡◌, ◌↔◌, ◌≢◌, ◌⊎◌, Bool, true, false, not, List, [], ℕ, length, get_or, neg_ℤ, Float, Ok, Err}
 use Rattle.places.specs.Refusals.{no_refusal}
 use Rattle.places.specs.declared.refusal.Refusal.{Refusal}
 use Rattle.places.specs.declared.refusal.Refusal.TheVariants.{Sides, Choice}
@@ -16,6 +14,7 @@ use Rattle.flat.specs.Points.{Point, vertices_of}
 use Rattle.cell.specs.Faces.{faces_of}
 use Rattle.volume.specs.Triangles.{triangles_of}
 use Rattle.refusals.specs.Refusals.{cell_refusal, turn_faces_refusal}
+use Rattle.geometry.specs.Answers.{Answer}
 use Rattle.geometry.specs.TurnFaces.{TurnFacesGives}
 use Rattle.geometry.specs.Listed.{TurnFacesTold}
 use Rattle.demand3.specs.Demand3.{Full, place_of, Sums}
@@ -44,11 +43,12 @@ pub record Closing (fs : List (List ℕ)) : Type 0 where
 pub record Refuses (coords : List Float) (corners ends : List ℕ) : Type 0 where
   -- A cell that is refused 1 to 4, as every entry on a cell refuses it, is refused with that number; 5 is not given.
   pub first : cell_refusal coords corners ends ≢ no_refusal → turn_faces_refusal coords corners ends ≡ cell_refusal coords corners ends
-  -- 11 says exactly that the cell is not refused 1 to 4, and that a condition fails, on sides or on doubled vertices.
+  -- 11, `Sides`, says exactly that the cell is not refused 1 to 4, and that a condition fails, on sides or on doubled vertices.
   pub eleven :
       (turn_faces_refusal coords corners ends ≡ Err Sides)
       ↔ ((cell_refusal coords corners ends ≡ no_refusal) × (Fit (faces_of corners ends) → ⊥))
-  -- 12 says exactly that the cell is not refused 1 to 4, that both conditions hold, and that no choice of reversals at all closes it.
+  -- 12, `Choice`, says exactly that the cell is not refused 1 to 4, that both conditions hold, and that no choice of reversals at all
+  -- closes it.
   pub twelve :
       (turn_faces_refusal coords corners ends ≡ Err Choice)
       ↔ ((cell_refusal coords corners ends ≡ no_refusal)

@@ -1,7 +1,9 @@
--- `share::share` meets its contract: both answers are those that the gatehouse promises, and the work lists are as the overlap leaves them.
-use mathlib.Core.Path.{◌≡◌}
+-- `share::share` meets its contract: both answers are those that `geometry` promises, a refusal is handed on, and the
+-- work lists are as the overlap leaves them.
+use mathlib.Core.Path.{◌≡◌, refl}
 use mathlib.Core.List.{List}
 use lib.Ieee.{Float}
+use Rattle.places.proofs.Refusals.{handed_on}
 use Rattle.geometry.specs.declared.Shared.{Shared}
 use Rattle.geometry.specs.Answers.{Answer}
 use Rattle.geometry.specs.Clipping.{Measure, Overlapping}
@@ -15,11 +17,16 @@ made_of : {a : Answer Shared} {v whole r : Answer Float} {first second : List Fl
 made_of e h q = rw (← e, ← h, q)
 
 pub returns-in_err-part : goal.returns-in_err-part
-returns-in_err-part c = ?
+unfolding share_answer
+returns-in_err-part c =
+    made_of c.in_err-part.ensures refl (handed_on c.from_residual.ensures.1)
 
 pub returns-in_err-whole : goal.returns-in_err-whole
-returns-in_err-whole c = ?
+unfolding share_answer
+returns-in_err-whole c =
+    made_of c.in_ok-part.ensures c.in_err-whole.ensures (handed_on c.from_residual-in_err-whole.ensures.1)
 
 pub returns : goal.returns
 unfolding share_answer
-returns c = ?
+returns c =
+    made_of c.in_ok-part.ensures c.in_ok-whole.ensures refl

@@ -1,6 +1,8 @@
 -- The rows worked by hand are what the definitions give.
 use mathlib.Core.Path.{◌≡◌, refl}
+use Rattle.std.specs.Prelude.{Err}
 use Rattle.places.specs.Refusals.{no_refusal}
+use Rattle.places.specs.declared.refusal.Refusal.TheVariants.{Number}
 use Rattle.cut.proofs.Computed as Cut
 use Rattle.inside.proofs.Computed as Inside
 use Rattle.clip_step.proofs.Computed as Trim
@@ -40,6 +42,6 @@ pub cube_passes : refusal_of cube hex_corners hex_ends [] [] ≡ no_refusal
 unfolding computed refusal_of first_row size_refused points_refused number_refused out_of_range ends_refused index_refused
 cube_passes = refl
 
-pub far_query_refused : refusal_of cube hex_corners hex_ends (of_bits binary64 0x4270_0000_0000_0001 ∷ []) [] ≡ 2
+pub far_query_refused : refusal_of cube hex_corners hex_ends (of_bits binary64 0x4270_0000_0000_0001 ∷ []) [] ≡ Err Number
 unfolding computed refusal_of first_row size_refused points_refused number_refused out_of_range ends_refused index_refused
 far_query_refused = refl

@@ -1,18 +1,14 @@
 -- The rows of turning are what the promise allows. Of a row that succeeds the choice is given, with the paths that show what the lowest
 -- faces keep, and the tests are computed; of a row that is refused the test of its refusal is.
-use mathlib.Core.Path.{◌≡◌, refl}
+use mathlib.Core.Path.{◌≡◌, refl, sym, ◌∙◌}
 use mathlib.Core.Bool.{Bool, true, false}
 use mathlib.Core.List.{List, [], ◌∷◌, ◌++◌}
 use Prim.Native.Nat.{ℕ, zero, suc}
-use native.Mathlib.Omega.{arith}
-use borrow.Author.Tests.{eq-eqb, ne_eqb}
-use lib.Dec.{eqb}
 use lib.ListN.{length}
 use lib.Ieee.{Float}
 use Rattle.std.specs.Prelude.{Ok, Err}
 use Rattle.places.specs.declared.refusal.Refusal.{Refusal}
 use Rattle.places.specs.declared.refusal.Refusal.TheVariants.{Sides, Choice}
-use Rattle.geometry.specs.Answers.{Answer}
 use Rattle.places.specs.Refusals.{no_refusal}
 use Rattle.places.specs.Loops.{any_of}
 use Rattle.places.specs.Stored.{joined}
@@ -80,7 +76,8 @@ module _ {coords : List Float} {corners ends : List ℕ} where
       → TurnFacesGives coords corners ends (Err Sides) corners
   refused_11 cell bad = refused_by Sides ((refuses coords corners ends).eleven.1 (cell, (unfit_not (faces_of corners ends)).0 bad))
 
-  refused_12 : cell_refusal coords corners ends ≡ no_refusal → unfit (faces_of corners ends) ≡ false → unclosable (faces_of corners ends) ≡ true
+  refused_12 : cell_refusal coords corners ends ≡ no_refusal → unfit (faces_of corners ends) ≡ false
+      → unclosable (faces_of corners ends) ≡ true
       → TurnFacesGives coords corners ends (Err Choice) corners
   refused_12 cell fit bad =
       let fits = (unfit_is (faces_of corners ends)).0 fit in

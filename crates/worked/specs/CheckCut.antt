@@ -1,15 +1,14 @@
 -- Request 9, 'Check triangles that clients send', worked by hand: lists of triangles and what `check_cut` answers, and faces that our own
 -- cut takes apart by place, as two tables and one claim about the definitions. proofs/CheckCut.antt proves the claim by computing them.
 -- The check says yes to some lists and no to others: no to one with a triangle doubled, turned round or missing.
-use Rattle.std.specs.Prelude.{◌≡◌, true, false, List, [], ◌∷◌, ◌++◌, ℕ, length, replicate, Float}
-use Rattle.std.specs.Prelude.{Ok, Err}
+use Rattle.std.specs.Prelude.{◌≡◌, Bool, true, false, List, [], ◌∷◌, ◌++◌, ℕ, length, replicate, Float, Ok, Err}
 use Rattle.places.specs.declared.refusal.Refusal.{Refusal}
 use Rattle.places.specs.declared.refusal.Refusal.TheVariants.{Size, Index}
-use Rattle.geometry.specs.Answers.{Answer}
 use Rattle.floats.specs.F64.{zero64, one64, two64}
 use Rattle.places.specs.Stored.{joined}
 use Rattle.flat.specs.Points.{vertices_of}
 use Rattle.cut.specs.Cut.{cut_by_place}
+use Rattle.geometry.specs.Answers.{Answer}
 use Rattle.geometry.specs.CheckCut.{check_cut_answer}
 use Rattle.demand3.specs.Demand3.{pieces}
 use Rattle.worked.specs.Table.{seven, tri, level}

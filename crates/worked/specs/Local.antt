@@ -1,13 +1,12 @@
 -- SCOPE 19, the move to a local origin, worked by hand: lists of vertices, what `to_local` answers and leaves, as one table and one claim
 -- about its definition, which proofs/Local.antt proves by computing it.
-use Rattle.std.specs.Prelude.{◌≡◌, List, [], ◌∷◌, ◌++◌, pos, negsuc, Float}
+use Rattle.std.specs.Prelude.{◌≡◌, List, [], ◌∷◌, ◌++◌, pos, negsuc, Float, Ok, Err}
 use Rattle.std.specs.Float.{binary64}
 use Rattle.std.specs.Float.Ieee.{of_bits, of_int}
-use Rattle.std.specs.Prelude.{Ok, Err}
 use Rattle.places.specs.declared.refusal.Refusal.TheVariants.{Inexact}
-use Rattle.geometry.specs.Answers.{Answer}
 use Rattle.floats.specs.F64.{zero64, one64, two64}
 use Rattle.geometry.specs.declared.Point3.{Point3}
+use Rattle.geometry.specs.Answers.{Answer}
 use Rattle.geometry.specs.Points.{to_local_answer}
 
 -- ---- a row: a list of vertices, the answer, and the list afterwards

@@ -1,10 +1,9 @@
 -- Request 3, 'Turn the backward faces', worked by hand: cells, and what turn_faces answers and leaves, as one table and one claim.
 -- proofs/TurnFaces.antt proves the claim: it computes the tests, and the laws of the promise do the rest.
-use Rattle.std.specs.Prelude.{List, [], ◌∷◌, ◌++◌, ℕ, Float}
-use Rattle.std.specs.Prelude.{Ok, Err}
+use Rattle.std.specs.Prelude.{List, [], ◌∷◌, ◌++◌, ℕ, Float, Ok, Err}
 use Rattle.places.specs.declared.refusal.Refusal.TheVariants.{Sides, Choice}
-use Rattle.geometry.specs.Answers.{Answer}
 use Rattle.floats.specs.F64.{zero64, one64, two64}
+use Rattle.geometry.specs.Answers.{Answer}
 use Rattle.geometry.specs.TurnFaces.{TurnFacesGives}
 use Rattle.demand3.specs.Cube.{cube, bottom, other_faces, hex_corners, hex_ends, backward_corners, torn_ends}
 

@@ -1,15 +1,16 @@
--- What the refusals of turning say: a cell's own are four others, so 11, 12 and none are told by the rows of turning, and these by tests.
-use mathlib.Core.Path.{◌≡◌, refl, sym}
+-- What the refusals of turning say: a cell's own numbers end at 4, so 11, 12 and none are told by the rows of turning, and these by tests.
+use mathlib.Core.Path.{◌≡◌, refl, sym, ap}
 use mathlib.Core.Logic.Iff
 use mathlib.Core.Logic.{◌↔◌, ◌≢◌}
 use mathlib.Core.Bool.{Bool, true, false, ◌||◌, false≢true, cond}
 use mathlib.Core.List.{List, [], ◌∷◌}
-use Prim.Native.Nat.{ℕ}
+use Prim.Native.Nat.{ℕ, ◌<◌, ◌≤◌}
+use native.Mathlib.Omega.{arith}
 use borrow.Author.Tests.{not-false}
 use lib.ListN.{length}
 use lib.Ieee.{Float}
 use Rattle.std.specs.Prelude.{Ok, Err}
-use Rattle.places.specs.Refusals.{Check, no_refusal}
+use Rattle.places.specs.Refusals.{Check, no_refusal, number_of}
 use Rattle.places.specs.declared.refusal.Refusal.{Refusal}
 use Rattle.places.specs.declared.refusal.Refusal.TheVariants.{Size, Number, Ends, Index, Sides, Choice}
 use Rattle.places.specs.Loops.{any_of}
@@ -23,15 +24,20 @@ use Rattle.facing.specs.Refused.{reversal_refusal}
 use Rattle.refusals.specs.Refusals.{first_refusal, cell_refusal, turn_faces_refusal}
 use Rattle.demand3.specs.TurnFaces.{Closing, Refuses}
 
--- ---- the rows of a cell give none of the refusals of turning
-four_rows : (w : Refusal) → Size ≢ w → Number ≢ w → Ends ≢ w → Index ≢ w → (a b c d : Bool)
+-- ---- the rows of a cell, whose numbers end at 4
+low_row : (v w : Refusal) → number_of v ≤ 4 → 4 < number_of w → ◌≢◌ {A = Check} (Err v) (Err w)
+low_row v w low high e =
+    let same : v ≡ w = cc in
+    omega (arith, low, high, ap number_of same)
+
+four_rows : (w : Refusal) → 4 < number_of w → (a b c d : Bool)
     → first_row ((Size, a) ∷ (Number, b) ∷ (Ends, c) ∷ (Index, d) ∷ []) ≢ Err w
 unfolding first_row
-four_rows w size number ends index true b c d e = size cc
-four_rows w size number ends index false true c d e = number cc
-four_rows w size number ends index false false true d e = ends cc
-four_rows w size number ends index false false false true e = index cc
-four_rows w size number ends index false false false false e = cc
+four_rows w high true b c d e = low_row Size w (omega arith) high e
+four_rows w high false true c d e = low_row Number w (omega arith) high e
+four_rows w high false false true d e = low_row Ends w (omega arith) high e
+four_rows w high false false false true e = low_row Index w (omega arith) high e
+four_rows w high false false false false e = cc
 
 -- ---- the rows of turning
 abbrev rows_of : Bool → Bool → Check
@@ -89,10 +95,10 @@ closing fs = (
 
 -- ---- the cell
 module _ (coords : List Float) (corners ends : List ℕ) where
-  cell_not : (w : Refusal) → Size ≢ w → Number ≢ w → Ends ≢ w → Index ≢ w → cell_refusal coords corners ends ≢ Err w
+  cell_not : (w : Refusal) → 4 < number_of w → cell_refusal coords corners ends ≢ Err w
   unfolding refusal_of
-  cell_not w size number bad index =
-      four_rows w size number bad index
+  cell_not w high =
+      four_rows w high
       (size_refused coords corners ends) (number_refused coords || number_refused []) (ends_refused corners ends)
       (index_refused (length (vertices_of coords)) corners || index_refused (length ends) [])
 
@@ -118,10 +124,9 @@ module _ (coords : List Float) (corners ends : List ℕ) where
   pub refuses : Refuses coords corners ends
   refuses = record {
     first = decides;
-    eleven =
-        passes (λ _. cell_not Sides (λ e. cc) (λ e. cc) (λ e. cc) (λ e. cc)) (Iff.trans (row_11 (unfit fs) (unclosable fs)) (unfit_not fs));
+    eleven = passes (λ _. cell_not Sides (omega arith)) (Iff.trans (row_11 (unfit fs) (unclosable fs)) (unfit_not fs));
     twelve =
-        flat (passes (λ _. cell_not Choice (λ e. cc) (λ e. cc) (λ e. cc) (λ e. cc))
+        flat (passes (λ _. cell_not Choice (omega arith))
         (Iff.trans (row_12 (unfit fs) (unclosable fs)) (Iff.and (unfit_is fs) (unclosable_is fs))));
     none = flat (passes (λ n. n) (Iff.trans (row_0 (unfit fs) (unclosable fs)) (Iff.and (unfit_is fs) (closing fs))));
   }

@@ -8,11 +8,16 @@ use native.Mathlib.Omega.{arith}
 use lib.Dec.{eqb}
 use lib.ListN.{length}
 use lib.Ieee.{Float}
-use borrow.Author.Tests.{eqb-true, ne_eqb}
+use borrow.Author.Tests.{ne_eqb}
+use Rattle.std.specs.Prelude.{Ok, Err}
+use Rattle.std.specs.Option.{is_none}
+use Rattle.places.specs.declared.refusal.Refusal.{Refusal}
+use Rattle.places.specs.declared.refusal.Refusal.TheVariants.{Record}
+use Rattle.places.specs.Refusals.{Check, no_refusal}
 use Rattle.records.specs.declared.bytes.Rec.{Rec}
 use Rattle.records.specs.declared.tally.Tally.{Tally}
 use Rattle.records.specs.Tally.{vertex_why, corner_why, face_end_why, cell_end_why, query_why, corner_fine, end_fine, fields_of, added}
-use Rattle.records.specs.Tally.{vertex_taken, corner_taken, face_end_taken, cell_end_taken, query_taken, refused_of, tally_of}
+use Rattle.records.specs.Tally.{vertex_taken, corner_taken, face_end_taken, cell_end_taken, query_taken, refused_of, tally_of, unless}
 use Rattle.records.specs.Tally.{with_vertex, with_corner, with_face, with_end, with_query, Fits, new_coords, new_corners, new_ends}
 use Rattle.records.specs.Tally.{new_queries}
 use Rattle.records.proofs.Tests.{why_room}
@@ -26,9 +31,9 @@ pub record Follows (t : Tally) (a : List Float) (b c : List ℕ) (d : List Float
   pub queries : u.queries * 3 ≡ t.queries * 3 + length d
   pub fits : Fits u
 
-nothing : {A : Type 0} (b : Bool) → ◌≡◌ {A = List A} (cond b [] []) []
-nothing true = refl
-nothing false = refl
+nothing : {A : Type 0} (w : Check) → ◌≡◌ {A = List A} (added w []) []
+nothing (Ok _) = refl
+nothing (Err _) = refl
 
 other : (n k : ℕ) → k < n → eqb n k ≡ false
 other n k h = ne_eqb n k (λ e. omega arith)
@@ -37,7 +42,7 @@ module _ (t : Tally) (r : Rec) (f : Fits t) where
   none : Follows t [] [] [] [] t
   none = record { number = refl; verts = omega arith; corners = omega arith; faces = omega arith; queries = omega arith; fits = f }
 
-  refused : (w : ℕ) → Follows t [] [] [] [] (refused_of t w)
+  refused : (w : Refusal) → Follows t [] [] [] [] (refused_of t w)
   refused w =
       record {
         number = refl;
@@ -49,17 +54,17 @@ module _ (t : Tally) (r : Rec) (f : Fits t) where
       }
 
   -- where nothing speaks against the record, what it adds; else the tally is refused
-  settled : (b : Bool) (w : ℕ) (x : List Float) (y z : List ℕ) (v : List Float) (n : Tally) → (b ≡ true → Follows t x y z v n)
-      → Follows t (cond b x []) (cond b y []) (cond b z []) (cond b v []) (cond b n (refused_of t w))
-  settled true w x y z v n h = h refl
-  settled false w x y z v n h = refused w
+  settled : (w : Check) (x : List Float) (y z : List ℕ) (v : List Float) (n : Tally) → (w ≡ no_refusal → Follows t x y z v n)
+      → Follows t (added w x) (added w y) (added w z) (added w v) (unless t w n)
+  settled (Ok _) x y z v n h = h refl
+  settled (Err why) x y z v n h = refused why
 
   vertex : Follows t (added (vertex_why t r) (fields_of r)) [] [] [] (vertex_taken t r)
   unfolding vertex_taken
   vertex =
-      let b = eqb (vertex_why t r) 0 in
-      rw (nothing {A = ℕ} b, nothing {A = Float} b) at (settled b (vertex_why t r) (fields_of r) [] [] [] (with_vertex t) (λ e.
-      let n = why_room r.clear t.verts 256 (eqb-true (vertex_why t r) 0 e) in
+      let w = vertex_why t r in
+      rw (nothing {A = ℕ} w, nothing {A = Float} w) at (settled w (fields_of r) [] [] [] (with_vertex t) (λ e.
+      let n = why_room r.clear t.verts 256 e in
       record {
         number = refl;
         verts = omega arith;
@@ -72,9 +77,9 @@ module _ (t : Tally) (r : Rec) (f : Fits t) where
   query : Follows t [] [] [] (added (query_why t r) (fields_of r)) (query_taken t r)
   unfolding query_taken
   query =
-      let b = eqb (query_why t r) 0 in
-      rw (nothing {A = ℕ} b, nothing {A = Float} b) at (settled b (query_why t r) [] [] [] (fields_of r) (with_query t) (λ e.
-      let n = why_room r.clear t.queries 256 (eqb-true (query_why t r) 0 e) in
+      let w = query_why t r in
+      rw (nothing {A = ℕ} w, nothing {A = Float} w) at (settled w [] [] [] (fields_of r) (with_query t) (λ e.
+      let n = why_room r.clear t.queries 256 e in
       record {
         number = refl;
         verts = omega arith;
@@ -87,9 +92,9 @@ module _ (t : Tally) (r : Rec) (f : Fits t) where
   corner : Follows t [] (added (corner_why t r) (r.a ∷ [])) [] [] (corner_taken t r)
   unfolding corner_taken
   corner =
-      let b = eqb (corner_why t r) 0 in
-      rw (nothing {A = ℕ} b, nothing {A = Float} b) at (settled b (corner_why t r) [] (r.a ∷ []) [] [] (with_corner t) (λ e.
-      let n = why_room (corner_fine r) t.corners 2048 (eqb-true (corner_why t r) 0 e) in
+      let w = corner_why t r in
+      rw (nothing {A = ℕ} w, nothing {A = Float} w) at (settled w [] (r.a ∷ []) [] [] (with_corner t) (λ e.
+      let n = why_room (corner_fine r) t.corners 2048 e in
       record {
         number = refl;
         verts = omega arith;
@@ -102,9 +107,9 @@ module _ (t : Tally) (r : Rec) (f : Fits t) where
   face_end_lem : Follows t [] [] (added (face_end_why t r) (t.corners ∷ [])) [] (face_end_taken t r)
   unfolding face_end_taken
   face_end_lem =
-      let b = eqb (face_end_why t r) 0 in
-      rw (nothing {A = ℕ} b, nothing {A = Float} b) at (settled b (face_end_why t r) [] [] (t.corners ∷ []) [] (with_face t) (λ e.
-      let n = why_room (end_fine r) t.faces 256 (eqb-true (face_end_why t r) 0 e) in
+      let w = face_end_why t r in
+      rw (nothing {A = ℕ} w, nothing {A = Float} w) at (settled w [] [] (t.corners ∷ []) [] (with_face t) (λ e.
+      let n = why_room (end_fine r) t.faces 256 e in
       record {
         number = refl;
         verts = omega arith;
@@ -117,8 +122,8 @@ module _ (t : Tally) (r : Rec) (f : Fits t) where
   cell_end : Follows t [] [] [] [] (cell_end_taken t r)
   unfolding cell_end_taken
   cell_end =
-      let b = eqb (cell_end_why t r) 0 in
-      rw (nothing {A = ℕ} b, nothing {A = Float} b) at (settled b (cell_end_why t r) [] [] [] [] (with_end t) (λ e.
+      let w = cell_end_why t r in
+      rw (nothing {A = ℕ} w, nothing {A = Float} w) at (settled w [] [] [] [] (with_end t) (λ e.
       record {
         number = refl;
         verts = omega arith;
@@ -133,8 +138,8 @@ module _ (t : Tally) (r : Rec) (f : Fits t) where
       (cond (eqb k 3) (added (face_end_why t r) (t.corners ∷ [])) []) (cond (eqb k 5) (added (query_why t r) (fields_of r)) [])
       (cond (eqb k 1) (vertex_taken t r)
       (cond (eqb k 2) (corner_taken t r)
-      (cond (eqb k 3) (face_end_taken t r) (cond (eqb k 4) (cell_end_taken t r) (cond (eqb k 5) (query_taken t r) (refused_of t 7))))))
-  by_kind zero = refused 7
+      (cond (eqb k 3) (face_end_taken t r) (cond (eqb k 4) (cell_end_taken t r) (cond (eqb k 5) (query_taken t r) (refused_of t Record))))))
+  by_kind zero = refused Record
   by_kind (suc zero) = vertex
   by_kind (suc (suc zero)) = corner
   by_kind (suc (suc (suc zero))) = face_end_lem
@@ -148,12 +153,12 @@ module _ (t : Tally) (r : Rec) (f : Fits t) where
         other n 3 (omega arith),
         other n 4 (omega arith),
         other n 5 (omega arith),
-      ) (refused 7)
+      ) (refused Record)
 
   -- a refused cell stays as it is
   pub tally_follows : Follows t (new_coords t r) (new_corners t r) (new_ends t r) (new_queries t r) (tally_of t r)
   unfolding new_coords new_corners new_ends new_queries tally_of
-  tally_follows = go (eqb t.refusal 0)
+  tally_follows = go (is_none t.refusal)
     where
       go : (b : Bool)
           → Follows t (cond (b && eqb r.kind 1) (added (vertex_why t r) (fields_of r)) [])
@@ -163,6 +168,6 @@ module _ (t : Tally) (r : Rec) (f : Fits t) where
           (cond b (cond (eqb r.kind 1) (vertex_taken t r)
           (cond (eqb r.kind 2) (corner_taken t r)
           (cond (eqb r.kind 3) (face_end_taken t r)
-          (cond (eqb r.kind 4) (cell_end_taken t r) (cond (eqb r.kind 5) (query_taken t r) (refused_of t 7)))))) t)
+          (cond (eqb r.kind 4) (cell_end_taken t r) (cond (eqb r.kind 5) (query_taken t r) (refused_of t Record)))))) t)
       go true = by_kind r.kind
       go false = none

@@ -1,15 +1,20 @@
 -- The running tally: what speaks against a record, what each kind makes of the tally, and what it adds to the cell's lists.
 use Rattle.std.specs.Prelude.{ℕ, ◌+◌, ◌≤◌, List, [], ◌∷◌, Bool, true, false, not, ◌&&◌, cond, length, eqb, ltb, Float}
+use Rattle.std.specs.Prelude.{None, Some, Ok, Err}
 use Rattle.std.specs.Float.{binary64}
 use Rattle.std.specs.Float.Ieee.{of_bits}
+use Rattle.std.specs.Option.{is_none}
+use Rattle.places.specs.declared.refusal.Refusal.{Refusal}
+use Rattle.places.specs.declared.refusal.Refusal.TheVariants.{Size, Record}
+use Rattle.places.specs.Refusals.{Check, no_refusal}
 use Rattle.places.specs.Limits.{most_vertices, most_coordinates, most_faces, most_corners, most_queries}
 use Rattle.records.specs.declared.bytes.Rec.{Rec}
 use Rattle.records.specs.declared.tally.Tally.{Tally}
 
--- ---- what speaks against a record: 7, 1 or 0
--- 7 for a bad record, 1 for one more than there is room for; 7 comes before 1
-unfoldable pub why_of : Bool → Bool → ℕ
-why_of fine room = cond fine (cond room 0 1) 7
+-- ---- what speaks against a record
+-- that it is bad, or that it is one more than there is room for; a bad record comes before no room
+unfoldable pub why_of : Bool → Bool → Check
+why_of fine room = cond fine (cond room no_refusal (Err Size)) (Err Record)
 
 -- a corner's spare bytes and second and third field are zero, and its number fits 32 bits
 unfoldable pub corner_fine : Rec → Bool
@@ -19,29 +24,29 @@ corner_fine r = r.clear && (eqb r.b 0 && (eqb r.c 0 && ltb r.a 4294967296))
 unfoldable pub end_fine : Rec → Bool
 end_fine r = r.clear && (eqb r.a 0 && (eqb r.b 0 && eqb r.c 0))
 
-abbrev pub vertex_why : Tally → Rec → ℕ
+abbrev pub vertex_why : Tally → Rec → Check
 vertex_why t r = why_of r.clear (ltb t.verts most_vertices)
 
-abbrev pub corner_why : Tally → Rec → ℕ
+abbrev pub corner_why : Tally → Rec → Check
 corner_why t r = why_of (corner_fine r) (ltb t.corners most_corners)
 
-abbrev pub face_end_why : Tally → Rec → ℕ
+abbrev pub face_end_why : Tally → Rec → Check
 face_end_why t r = why_of (end_fine r) (ltb t.faces most_faces)
 
 -- a cell end with an open face is bad
-abbrev pub cell_end_why : Tally → Rec → ℕ
+abbrev pub cell_end_why : Tally → Rec → Check
 cell_end_why t r = why_of (end_fine r && not t.loose) true
 
-abbrev pub query_why : Tally → Rec → ℕ
+abbrev pub query_why : Tally → Rec → Check
 query_why t r = why_of r.clear (ltb t.queries most_queries)
 
 -- ---- the tally
 -- before the first record of cell n
 abbrev pub new_of : ℕ → Tally
-new_of n = record { number = n; verts = 0; corners = 0; faces = 0; queries = 0; loose = false; refusal = 0; begun = false }
+new_of n = record { number = n; verts = 0; corners = 0; faces = 0; queries = 0; loose = false; refusal = None; begun = false }
 
 -- a record is refused: the cell is
-abbrev pub refused_of : Tally → ℕ → Tally
+abbrev pub refused_of : Tally → Refusal → Tally
 refused_of t why =
     record {
       number = t.number;
@@ -50,13 +55,14 @@ refused_of t why =
       faces = t.faces;
       queries = t.queries;
       loose = t.loose;
-      refusal = why;
+      refusal = Some why;
       begun = true;
     }
 
 -- the next tally, where nothing speaks against the record
-abbrev pub unless : Tally → ℕ → Tally → Tally
-unless t why next = cond (eqb why 0) next (refused_of t why)
+abbrev pub unless : Tally → Check → Tally → Tally
+unless t (Ok _) next = next
+unless t (Err why) next = refused_of t why
 
 -- a count that a record leaves as it is, and one that it raises
 abbrev pub same : ℕ → ℕ
@@ -120,24 +126,25 @@ abbrev pub fields_of : Rec → List Float
 fields_of r = of_bits binary64 r.a ∷ of_bits binary64 r.b ∷ of_bits binary64 r.c ∷ []
 
 -- a list, where nothing speaks against the record
-abbrev pub added : {A : Type 0} → ℕ → List A → List A
-added why xs = cond (eqb why 0) xs []
+abbrev pub added : {A : Type 0} → Check → List A → List A
+added (Ok _) xs = xs
+added (Err _) xs = []
 
 -- ---- any record: in a refused cell it is skipped, else its kind says what it is, and every other kind is bad
 unfoldable pub tally_of : Tally → Rec → Tally
 tally_of t r =
-    cond (eqb t.refusal 0)
+    cond (is_none t.refusal)
     (cond (eqb r.kind 1) (vertex_taken t r)
     (cond (eqb r.kind 2) (corner_taken t r)
     (cond (eqb r.kind 3) (face_end_taken t r)
     (cond (eqb r.kind 4) (cell_end_taken t r)
     (cond (eqb r.kind 5) (query_taken t r)
-    (refused_of t 7))))))
+    (refused_of t Record))))))
     t
 
 -- a record is of kind k and not skipped
 abbrev pub takes : Tally → Rec → ℕ → Bool
-takes t r k = eqb t.refusal 0 && eqb r.kind k
+takes t r k = is_none t.refusal && eqb r.kind k
 
 -- to the coordinates a vertex adds its three fields
 unfoldable pub new_coords : Tally → Rec → List Float

@@ -9,9 +9,10 @@ ghost use Rattle.records.specs.Tally.{Sized, Fits};
 ghost use Rattle.records.specs.Steps.{Tallied};
 
 use crate::bytes::Rec;
+use places::refusal::Refusal;
 
 // What is known of the cell so far: its number, how much of it came, whether a face has corners and
-// no end yet, why it is refused (0 while it is not), and whether any record came.
+// no end yet, why it is refused where it is, and whether any record came.
 #[derive(Clone, Copy)]
 pub struct Tally {
     pub number: u64,
@@ -20,18 +21,18 @@ pub struct Tally {
     pub faces: usize,
     pub queries: usize,
     pub loose: bool,
-    pub refusal: u8,
+    pub refusal: Option<Refusal>,
     pub begun: bool,
 }
 
-// 7 comes before 1, here and nowhere else.
-fn why(fine: bool, n: usize, most: usize) -> u8
+// A bad record comes before no room, here and nowhere else.
+fn why(fine: bool, n: usize, most: usize) -> Result<(), Refusal>
     ensures { result ≡ why_of fine (ltb n most) }
 {
     if !fine {
-        return 7;
+        return Err(Refusal::Record);
     }
-    if n < most { 0 } else { 1 }
+    if n < most { Ok(()) } else { Err(Refusal::Size) }
 }
 
 #[tactic(auto, unfolding(crate::specs::Tally::corner_fine))]
@@ -70,17 +71,17 @@ impl Tally {
             faces: 0,
             queries: 0,
             loose: false,
-            refusal: 0,
+            refusal: None,
             begun: false,
         }
     }
 
     // The cell is refused.
-    pub fn refused(self, why: u8) -> Tally
+    pub fn refused(self, why: Refusal) -> Tally
         ensures { result ≡ refused_of self why }
     {
         Tally {
-            refusal: why,
+            refusal: Some(why),
             begun: true,
             ..self
         }
@@ -92,16 +93,17 @@ impl Tally {
         ensures value { result ≡ vertex_taken self r }
         ensures coords_value { coords.new ≡ sets coords.old (self.verts * 3) (added (vertex_why self r) (fields_of r)) }
     {
-        let w = why(r.clear, self.verts, places::limits::MOST_VERTICES);
-        if w == 0 {
-            put_point(coords, self.verts * 3, r);
-            return Tally {
-                verts: self.verts + 1,
-                begun: true,
-                ..self
-            };
+        match why(r.clear, self.verts, places::limits::MOST_VERTICES) {
+            Ok(()) => {
+                put_point(coords, self.verts * 3, r);
+                Tally {
+                    verts: self.verts + 1,
+                    begun: true,
+                    ..self
+                }
+            }
+            Err(refusal) => self.refused(refusal),
         }
-        self.refused(w)
     }
 
     // Kind 2.
@@ -110,17 +112,18 @@ impl Tally {
         ensures value { result ≡ corner_taken self r }
         ensures corners_value { corners.new ≡ sets corners.old self.corners (added (corner_why self r) (r.a ∷ [])) }
     {
-        let w = why(corner_fine(r), self.corners, places::limits::MOST_CORNERS);
-        if w == 0 {
-            corners[self.corners] = r.a as u32;
-            return Tally {
-                corners: self.corners + 1,
-                loose: true,
-                begun: true,
-                ..self
-            };
+        match why(corner_fine(r), self.corners, places::limits::MOST_CORNERS) {
+            Ok(()) => {
+                corners[self.corners] = r.a as u32;
+                Tally {
+                    corners: self.corners + 1,
+                    loose: true,
+                    begun: true,
+                    ..self
+                }
+            }
+            Err(refusal) => self.refused(refusal),
         }
-        self.refused(w)
     }
 
     // Kind 3.
@@ -129,17 +132,18 @@ impl Tally {
         ensures value { result ≡ face_end_taken self r }
         ensures ends_value { ends.new ≡ sets ends.old self.faces (added (face_end_why self r) (self.corners ∷ [])) }
     {
-        let w = why(end_fine(r), self.faces, places::limits::MOST_FACES);
-        if w == 0 {
-            ends[self.faces] = self.corners as u32;
-            return Tally {
-                faces: self.faces + 1,
-                loose: false,
-                begun: true,
-                ..self
-            };
+        match why(end_fine(r), self.faces, places::limits::MOST_FACES) {
+            Ok(()) => {
+                ends[self.faces] = self.corners as u32;
+                Tally {
+                    faces: self.faces + 1,
+                    loose: false,
+                    begun: true,
+                    ..self
+                }
+            }
+            Err(refusal) => self.refused(refusal),
         }
-        self.refused(w)
     }
 
     // Kind 4, before the cell's line.
@@ -148,7 +152,7 @@ impl Tally {
         ensures { result ≡ cell_end_taken self r }
     {
         if !end_fine(r) || self.loose {
-            return self.refused(7);
+            return self.refused(Refusal::Record);
         }
         Tally {
             begun: true,
@@ -162,16 +166,17 @@ impl Tally {
         ensures value { result ≡ query_taken self r }
         ensures queries_value { queries.new ≡ sets queries.old (self.queries * 3) (added (query_why self r) (fields_of r)) }
     {
-        let w = why(r.clear, self.queries, places::limits::MOST_QUERIES);
-        if w == 0 {
-            put_point(queries, self.queries * 3, r);
-            return Tally {
-                queries: self.queries + 1,
-                begun: true,
-                ..self
-            };
+        match why(r.clear, self.queries, places::limits::MOST_QUERIES) {
+            Ok(()) => {
+                put_point(queries, self.queries * 3, r);
+                Tally {
+                    queries: self.queries + 1,
+                    begun: true,
+                    ..self
+                }
+            }
+            Err(refusal) => self.refused(refusal),
         }
-        self.refused(w)
     }
 
     // Any record. The first refusal stands: what follows it in the cell is skipped.
@@ -188,7 +193,7 @@ impl Tally {
         ensures { Tallied self r coords.old corners.old ends.old queries.old
             result coords.new corners.new ends.new queries.new }
     {
-        if self.refusal != 0 {
+        if self.refusal.is_some() {
             return self;
         }
         match r.kind {
@@ -197,7 +202,7 @@ impl Tally {
             3 => self.face_end(r, ends),
             4 => self.cell_end(r),
             5 => self.query(r, queries),
-            _ => self.refused(7),
+            _ => self.refused(Refusal::Record),
         }
     }
 }

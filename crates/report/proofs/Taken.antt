@@ -9,7 +9,10 @@ use lib.ListN.{length, take, drop, length-append}
 use lib.Seq.{sets, sets-eq, take_at, length-take-le}
 use lib.Dec.{eqb}
 use lib.Ieee.{Float}
-use borrow.Author.Tests.{eq-eqb, ne_eqb}
+use borrow.Author.Tests.{eq-eqb}
+use Rattle.std.specs.Prelude.{None, Some}
+use Rattle.places.specs.declared.refusal.Refusal.{Refusal}
+use Rattle.places.specs.Refusals.{number_of}
 use Rattle.geometry.specs.declared.Findings.{Findings}
 use Rattle.geometry.specs.Answers.{Answer}
 use Rattle.geometry.specs.Survey.{survey_answer}
@@ -93,16 +96,16 @@ module _ {t : Tally} {r : Rec} {a : List Float} {b c : List ℕ} {d : List Float
   says_on o at k = rw k (record { holds = refl; ends = omega arith })
 
 -- ---- a cell's line
-pub line_refused : {o : List ℕ} {at : ℕ} {o' : List ℕ} {m : ℕ} (h : Held) → (h.tally.refusal ≡ 0 → ⊥)
-    → Put o at (refused_line h.tally.number h.tally.refusal) o' m → Put o at (line_of h) o' m
+pub line_refused : {o : List ℕ} {at : ℕ} {o' : List ℕ} {m : ℕ} (h : Held) {why : Refusal} → h.tally.refusal ≡ Some why
+    → Put o at (refused_line h.tally.number (number_of why)) o' m → Put o at (line_of h) o' m
 unfolding line_of
-line_refused h n p = rw (ne_eqb h.tally.refusal 0 n) p
+line_refused h e p = rw e p
 
-pub line_found : {o : List ℕ} {at : ℕ} {o' : List ℕ} {m : ℕ} (h : Held) (x y : Answer Findings) → h.tally.refusal ≡ 0
+pub line_found : {o : List ℕ} {at : ℕ} {o' : List ℕ} {m : ℕ} (h : Held) (x y : Answer Findings) → h.tally.refusal ≡ None
     → x ≡ survey_answer h.coords h.corners h.ends h.queries → x ≡ y
     → Put o at (survey_line h.tally.number h.tally.verts h.tally.faces y) o' m → Put o at (line_of h) o' m
 unfolding line_of
-line_found h x y n e f p = rw (eq-eqb h.tally.refusal 0 n, ← e, f) p
+line_found h x y n e f p = rw (n, ← e, f) p
 
 -- ---- a block: what holds after k records
 module _ (h₀ : Held) (s : List ℕ) (k : ℕ) (l : (k + 1) * 32 ≤ length s) {h : Held} {r : Rec}

@@ -1,5 +1,6 @@
 -- The report: the bytes are cut into records, each record makes something of the cell so far, and one that ends a cell prints its line.
-use Rattle.std.specs.Prelude.{ℕ, ◌+◌, ◌*◌, List, [], ◌∷◌, ◌++◌, Bool, cond, length, take, drop, eqb, Float, Ok, Err}
+use Rattle.std.specs.Prelude.{ℕ, ◌+◌, ◌*◌, List, [], ◌∷◌, ◌++◌, Bool, cond, length, take, drop, eqb, Float, Option, None, Some, Ok, Err}
+use Rattle.places.specs.declared.refusal.Refusal.{Refusal}
 use Rattle.places.specs.Refusals.{number_of}
 use Rattle.std.proofs.lemmas.List.Edits.{sets}
 use Rattle.geometry.specs.declared.Findings.{Findings}
@@ -39,12 +40,16 @@ abbrev pub survey_line : ℕ → ℕ → ℕ → Answer Findings → List ℕ
 survey_line number verts faces (Ok s) = cell_line number verts faces s
 survey_line number verts faces (Err why) = refused_line number (number_of why)
 
--- a cell's line: a record's refusal decides, and where there is none the survey of the cell
+-- a record's refusal decides, and where there is none the survey's answer
+abbrev pub decided : Option Refusal → Answer Findings → Answer Findings
+decided None answer = answer
+decided (Some why) answer = Err why
+
+-- a cell's line
 unfoldable pub line_of : Held → List ℕ
 line_of h =
-    cond (eqb h.tally.refusal 0)
-    (survey_line h.tally.number h.tally.verts h.tally.faces (survey_answer h.coords h.corners h.ends h.queries))
-    (refused_line h.tally.number h.tally.refusal)
+    survey_line h.tally.number h.tally.verts h.tally.faces
+    (decided h.tally.refusal (survey_answer h.coords h.corners h.ends h.queries))
 
 -- a record is taken: any record of kind 4 ends the cell, and the next one starts anew
 unfoldable pub record_taken : Held → Rec → Held

@@ -45,11 +45,11 @@ pub fn put_line(
     ensures put { Put out.old at (line_of (held_of t coords.now corners.now ends.now queries.now)) out.new result }
     ensures upper_bound { result ≤ at + 256 }
 {
-    if t.refusal != 0 {
-        return lines::put_refused(out, at, t.number, t.refusal);
+    if let Some(why) = t.refusal {
+        return lines::put_refused(out, at, t.number, why);
     }
     match found(t, coords, corners, ends, queries) {
         Ok(s) => lines::put_cell(out, at, t.number, t.verts, t.faces, s),
-        Err(why) => lines::put_refused(out, at, t.number, u8::from(why)),
+        Err(why) => lines::put_refused(out, at, t.number, why),
     }
 }

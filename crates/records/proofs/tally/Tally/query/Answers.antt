@@ -1,41 +1,23 @@
 -- `records::tally::Tally::query` meets its contract: where nothing speaks against the record there is room for three numbers more, and
 -- else the tally is refused for that reason.
-use mathlib.Core.Path.{◌≡◌, sym, ap, ◌∙◌}
-use Prim.Native.Nat.{◌<◌}
 use native.Mathlib.Omega.{arith}
-use borrow.Author.Tests.{eq-eqb, ne_eqb}
-use Rattle.records.specs.Tally.{query_taken, query_why, refused_of}
-use Rattle.records.proofs.Tests.{why_room}
+use Rattle.records.specs.Tally.{with_query, query_taken}
+use Rattle.records.proofs.Tests.{room_left, counts, refuses}
 use Rattle.records.proofs.tally.Tally.query.Goals as goal
-use Rattle.records.proofs.tally.Tally.query.Goals.{Then-w-eq0}
-
--- where nothing speaks against the record
-fine : (c : Then-w-eq0) → query_why c.args.self c.args.r ≡ 0
-fine c = sym c.why-w.ensures ∙ c.if-w-eq0.true
-
--- there is room for one more
-room : (c : Then-w-eq0) → c.args.self.queries < 256
-room c = why_room c.args.r.clear c.args.self.queries 256 (fine c)
 
 pub overflow_mul-self : goal.overflow_mul-self
-overflow_mul-self c = omega (arith, room (goal.at.overflow_mul-self c).Then-w-eq0)
+overflow_mul-self c = omega (arith, room_left _ _ _ c.why.ensures c.in-Ok.is)
 
 pub put_point-requires : goal.put_point-requires
-put_point-requires c = omega (arith, room (goal.at.put_point-requires c).Then-w-eq0)
+put_point-requires c = omega (arith, room_left _ _ _ c.why.ensures c.in-Ok.is)
 
 pub overflow_add-result : goal.overflow_add-result
-overflow_add-result c = omega (arith, room (goal.at.overflow_add-result c).Then-w-eq0)
+overflow_add-result c = omega (arith, room_left _ _ _ c.why.ensures c.in-Ok.is)
 
-pub returns-then-w-eq0 : goal.returns-then-w-eq0
+pub returns-in-Ok-clause-value : goal.returns-in-Ok-clause-value
 unfolding query_taken
-returns-then-w-eq0 c =
-    record {
-      value = simp (eq-eqb _ _ (fine (goal.at.returns-then-w-eq0 c).Then-w-eq0));
-      queries_value = simp (eq-eqb _ _ (fine (goal.at.returns-then-w-eq0 c).Then-w-eq0)) c.put_point.ensures;
-    }
+returns-in-Ok-clause-value c = counts c.args.self c.why.ensures c.in-Ok.is
 
-pub returns : goal.returns
+pub returns-in-Err-clause-value : goal.returns-in-Err-clause-value
 unfolding query_taken
-returns c =
-    let no = ne_eqb (query_why c.args.self c.args.r) 0 (λ z. c.if-w-eq0.false (c.why-w.ensures ∙ z)) in
-    record { value = simp no (c.refused.ensures ∙ ap (refused_of c.args.self) c.why-w.ensures); queries_value = simp no }
+returns-in-Err-clause-value c = refuses c.args.self (with_query c.args.self) c.why.ensures c.in-Err.is c.refused.ensures

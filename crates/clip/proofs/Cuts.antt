@@ -43,7 +43,8 @@ module _ {room m left : ℕ} {cut before : List Point} (after front : List Float
   unfolding cut_change
   cut_gone l = rw (filled_within f h, ← count_is, lt-ltb left 3 l) shows_gone
 
-  pub cut_made : 3 ≤ left → length front ≡ m * 3 → Shows room (cut_change room cut) (Ok (Made left)) (in_threes (front ++ drop (m * 3) after))
+  pub cut_made : 3 ≤ left → length front ≡ m * 3
+      → Shows room (cut_change room cut) (Ok (Made left)) (in_threes (front ++ drop (m * 3) after))
   unfolding cut_change
   cut_made l n =
       let w : left ≤ length (in_threes front) = omega (arith, length-take left (in_threes front), ap length stands, count) in
@@ -85,7 +86,8 @@ module _ {room n : ℕ} (eps : Float) {plane : Plane} {second : Bool} {a b : Lis
     unfolding plane_change
     all_out z w = still (rw (outline_length second n a b h g, le-ltb n 3 l, ← e, ne_eqb out 0 z, eq-eqb out n w) shows_gone)
 
-    pub some_out : {r : Result Step NoRoom} {a' b' : List Point} → ¬ (out ≡ 0) → ¬ (out ≡ n) → Moved room (slice room eps) plane n second a b r a' b'
+    pub some_out : {r : Result Step NoRoom} {a' b' : List Point} → ¬ (out ≡ 0) → ¬ (out ≡ n)
+        → Moved room (slice room eps) plane n second a b r a' b'
         → Moved room (plane_change room eps) plane n second a b r a' b'
     unfolding plane_change
     some_out z w m =

@@ -6,9 +6,7 @@ use mathlib.Core.Bool.{Bool, true, false, not, cond}
 use mathlib.Core.List.{List, [], ◌∷◌}
 use Prim.Native.Nat.{ℕ, zero, suc, ◌-◌}
 use native.Mathlib.Omega.{arith}
-use lib.Dec.{eqb}
 use lib.ListN.{length, get_or, length-reverse}
-use borrow.Author.Tests.{eqb-true}
 use Rattle.places.specs.Stored.{joined}
 use Rattle.places.proofs.Reversal.{reverse_at}
 use Rattle.exact.specs.Sides.{Closed}

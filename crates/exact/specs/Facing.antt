@@ -1,6 +1,7 @@
 -- Request 3, 'Turn the backward faces', sentence by sentence: some faces of a cell are reversed so that it becomes closed.
 -- fs are the faces of the cell, each the list of its corners' vertex numbers.
-use Rattle.std.specs.Prelude.{◌≡◌, ◌≢◌, Bool, true, false, not, ◌&&◌, ◌||◌, cond, List, [], ◌∷◌, ◌++◌, map, reverse, ℕ, zero, suc, ◌+◌, is_ok}
+use Rattle.std.specs.Prelude.{◌≡◌, ◌≢◌, Bool, true, false, not, ◌&&◌, ◌||◌, cond, List, [], ◌∷◌, ◌++◌, map, reverse, ℕ, zero, suc, ◌+◌}
+use Rattle.std.specs.Prelude.{is_ok}
 use Rattle.std.specs.Prelude.{◌<◌, eqb, length, get_or}
 use Rattle.places.specs.Refusals.{Check, no_refusal}
 use Rattle.places.specs.Loops.{any_of, one_if}

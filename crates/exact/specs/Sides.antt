@@ -1,5 +1,5 @@
 -- The sides of faces, and when faces are closed. A face is the list of its corners' vertex numbers; so is a triangle.
-use Rattle.std.specs.Prelude.{◌≡◌, ◌↔◌, ◌≢◌, Bool, true, false, ◌&&◌, List, [], ◌∷◌, ◌++◌, ℕ, ◌+◌, eqb}
+use Rattle.std.specs.Prelude.{◌≡◌, ◌↔◌, ◌≢◌, Bool, true, ◌&&◌, List, [], ◌∷◌, ◌++◌, ℕ, ◌+◌, eqb}
 use Rattle.places.specs.Ring.{sides}
 use Rattle.places.specs.Loops.{one_if}
 

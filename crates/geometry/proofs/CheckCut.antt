@@ -1,7 +1,7 @@
 -- What `check_cut` answers is yes exactly for a cut, since the test of one is; and `triangle_places` answers the counts of
 -- `triangles`, since the cut by place is the one cut.
-use mathlib.Core.Path.{◌≡◌, refl, sym, ◌∙◌, ap}
-use mathlib.Core.Bool.{Bool, true, false, cond}
+use mathlib.Core.Path.{◌≡◌, refl, sym, ◌∙◌}
+use mathlib.Core.Bool.{Bool, true}
 use mathlib.Core.List.{List}
 use Prim.Native.Nat.{ℕ}
 use lib.ListN.{length}

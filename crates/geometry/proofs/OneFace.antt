@@ -47,8 +47,8 @@ module _ (coords : List Float) (corners ends : List ℕ) (k : ℕ) where
         → (r, out) ≡ cut_answer cut coords corners ends k out
     not_sound up found = refused_beside _ up (first_decides coords corners ends k (length out) found)
 
-    module _ (through : no_refusal ≡ face_refusal coords corners ends k) {face : List ℕ} (asked : face ≡ get_or (faces_of corners ends) k [])
-        {b : Bool} (room : b ≡ room_refused face (length out)) where
+    module _ (through : no_refusal ≡ face_refusal coords corners ends k) {face : List ℕ}
+        (asked : face ≡ get_or (faces_of corners ends) k []) {b : Bool} (room : b ≡ room_refused face (length out)) where
       decides : cond b (Err Room) no_refusal ≡ triangles_refusal coords corners ends k (length out)
       decides = room_decides coords corners ends k (length out) b through (rw (← asked) room)
 

@@ -1,7 +1,7 @@
 -- The ways in which turn_faces answers, each by the promise: a check of the cell refuses, no choice is made,
 -- or the faces stand as the codes have them.
-use mathlib.Core.Path.{◌≡◌, refl, sym, ◌∙◌}
-use mathlib.Core.Bool.{Bool, false}
+use mathlib.Core.Path.{◌≡◌, refl}
+use mathlib.Core.Bool.{false}
 use mathlib.Core.List.{List}
 use Prim.Native.Nat.{ℕ}
 use lib.ListN.{length}
@@ -12,7 +12,7 @@ use Rattle.geometry.specs.Answers.{Answer}
 use Rattle.places.specs.Refusals.{Check, no_refusal}
 use Rattle.places.specs.declared.refusal.Refusal.{Refusal}
 use Rattle.places.specs.Stored.{joined}
-use Rattle.exact.specs.Facing.{reversed_by, how_many, Reversed}
+use Rattle.exact.specs.Facing.{reversed_by, how_many}
 use Rattle.cell.specs.Faces.{faces_of}
 use Rattle.facing.specs.Refused.{reversal_refusal}
 use Rattle.facing.specs.Steps.{code_choice, Chosen}

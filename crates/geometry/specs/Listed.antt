@@ -1,6 +1,7 @@
 -- An answer in lists, as it crosses a boundary that only numbers and lent lists pass: for each answer of an entry its number
 -- in SCOPE 3 and its values.
-use Rattle.std.specs.Prelude.{ℕ, ◌≡◌, Bool, true, false, ◌||◌, cond, List, [], ◌∷◌, ltb, eqb, length, replicate, Float, Option, None, Some, Ok, Err}
+use Rattle.std.specs.Prelude.{ℕ, ◌≡◌, Bool, true, false, ◌||◌, cond, List, [], ◌∷◌, ltb, eqb, length, replicate, Float, Option, None, Some}
+use Rattle.std.specs.Prelude.{Ok, Err}
 use Rattle.places.specs.Refusals.{Check, number_of}
 use Rattle.places.specs.declared.refusal.Refusal.TheVariants.{Size, Room}
 use Rattle.places.specs.Loops.{one_if}

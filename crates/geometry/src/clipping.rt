@@ -1,11 +1,12 @@
 // Clipping and the overlaps, which work in two lent lists: clipping goes from one to the other and back,
 // and shows what is left in the one where it ended.
+ghost use Rattle.std.specs.Prelude.{◌≡◌};
+ghost use Rattle.geometry.specs.Clipping.{clip_face_answer, clip_convex_answer, overlap_area_answer, overlap_answer, outline_shown};
+ghost use Rattle.geometry.specs.Clipping.{shared_shown};
+ghost use Rattle.geometry.specs.Clipping.{shared_answer, overlap_answer};
+
 use crate::{Outline, Shared};
 use places::refusal::Refusal;
-
-ghost use Rattle.std.specs.Prelude.{◌≡◌};
-ghost use Rattle.geometry.specs.Clipping.{clip_face_answer, clip_convex_answer, overlap_area_answer, overlap_answer, outline_shown, shared_shown};
-ghost use Rattle.geometry.specs.Clipping.{shared_answer, overlap_answer};
 
 // An outline as an entry shows it.
 impl From<work_lists::Outline> for Outline {

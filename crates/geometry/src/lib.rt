@@ -1,6 +1,6 @@
 // The gatehouse: every public entry takes any input, refuses by the numbers of SCOPE 3, in their order, and then calls a room.
-// The entries on a cell and the check of triangles over a face's places stand here, with every type of a public signature; those on lists
-// of points in `in_space` and `in_plane`, clipping in `clipping`, the fixed shapes in `fixed`, the leaves in `leaves`.
+// The entries on a cell and the check of triangles over a face's places stand here, with every type of a public signature but the refusal,
+// which is in `places`; those on lists of points in `in_space` and `in_plane`, clipping in `clipping`, the fixed shapes in `fixed`, the leaves in `leaves`.
 // A cell's three lists stay three arguments, as every C name has them.
 #![tactic(auto)]
 
@@ -22,7 +22,7 @@ ghost use Rattle.geometry.specs.TurnFaces.{can_turn_answer, TurnFacesGives};
 
 use places::refusal::Refusal;
 
-// A point and a box, of space and of the plane. An enum holds no array, so the coordinates have names.
+// A point and a box, of space and of the plane, with names for the coordinates.
 #[derive(Clone, Copy)]
 pub struct Point3 {
     pub x: f64,

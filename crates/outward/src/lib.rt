@@ -38,7 +38,6 @@ fn has_corner(face: &[u32], v: usize) -> bool
 }
 
 // What is seen when p is looked at besides.
-#[tactic(auto, unfolding(crate::specs::Convexity::level_of, crate::specs::Convexity::above, crate::specs::Convexity::below, crate::specs::Steps::see_of))]
 fn see(n: [f64; 3], d: f64, eps: f64, p: [f64; 3], seen: Seen) -> Seen
     ensures { result ≡ see_of n d eps p seen }
 {

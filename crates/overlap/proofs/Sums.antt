@@ -143,7 +143,8 @@ module _ {ref : Point} {f : List ℕ → Outcome} {c es : List ℕ} {whole : Res
   add_step = rises_more p es (length c) k e h q l.ordered
 
   -- the face k is taken in, and r is where the sum came to
-  goes_on : {r : Result Float NoRoom} → r ≡ added_to ref v (f (slice p e c) ∷ []) → onward r (λ w. added_to ref w (outcomes f c es e (k + 1))) ≡ whole
+  goes_on : {r : Result Float NoRoom} → r ≡ added_to ref v (f (slice p e c) ∷ [])
+      → onward r (λ w. added_to ref w (outcomes f c es e (k + 1))) ≡ whole
   goes_on g =
       let next : added_to ref v (f (slice p e c) ∷ outcomes f c es e (k + 1)) ≡ whole = rw q (sym (rw (faces_more p c es k h)) ∙ l.so) in
       rw g (sym (added_append ref v (f (slice p e c) ∷ []) (outcomes f c es e (k + 1))) ∙ next)

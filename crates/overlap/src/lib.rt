@@ -266,8 +266,8 @@ fn has_no_area(coords: &[f64], face: &[u32], all: bool) -> bool
     planes::has_no_area(coords, face)
 }
 
-// The plane of a face, or nothing where it has no area, from the planes of its cell: the faces before it have j of them, and `all` says whether all
-// faces have one.
+// The plane of a face, or nothing where it has no area, from the planes of its cell: the faces before it have j of them, and `all` says
+// whether all faces have one.
 fn own_plane(coords: &[f64], face: &[u32], own: &[f64], j: usize, all: bool) -> Option<Plane>
     requires inside { Inside (vertices_of coords.now) face.now }
     requires next { Next (vertices_of coords.now) face.now (in_fours own.now) j all }

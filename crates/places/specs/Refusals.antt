@@ -1,7 +1,8 @@
 -- Why a call is refused: a row of the table of SCOPE 3, and its number; and what a check finds.
 use Rattle.std.specs.Prelude.{◌≡◌, ℕ, ⊤, Result, Ok}
 use Rattle.places.specs.declared.refusal.Refusal.{Refusal}
-use Rattle.places.specs.declared.refusal.Refusal.TheVariants.{Size, Number, Ends, Index, EmptyFace, Room, Record, Tail, Sides, Choice, Inexact}
+use Rattle.places.specs.declared.refusal.Refusal.TheVariants.{Size, Number, Ends, Index, EmptyFace, Room, Record, Tail, Sides, Choice}
+use Rattle.places.specs.declared.refusal.Refusal.TheVariants.{Inexact}
 
 -- the number of a row
 abbrev pub number_of : Refusal → ℕ

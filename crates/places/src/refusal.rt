@@ -18,6 +18,7 @@ pub enum Refusal {
 }
 
 // The row's number, as C and the report's lines have it.
+// Ruled out: a number that the table has not; a row's place in the list for its number.
 impl From<Refusal> for u8 {
     ghost from_gives = { NumberOf };
 

@@ -1,7 +1,7 @@
 -- Loops over the faces of a cell: `planes` lays down the planes of those that have area, `no_area_faces` a number for each, and
 -- `no_area_count` counts. In each, what the faces before face k gave and what those from it on will give are together the whole.
 use mathlib.Core.Path.{◌≡◌, refl, sym, ap, ◌∙◌}
-use mathlib.Core.Bool.{Bool, true, false, true≢false}
+use mathlib.Core.Bool.{Bool, true, false}
 use mathlib.Core.List.{List, [], ◌∷◌, ◌++◌, map, append_assoc, append-nil}
 use Prim.Native.Nat.{ℕ, ◌+◌, ◌<◌, ◌≤◌, zero-le}
 use native.Mathlib.Numerals.{add-one}

@@ -1,6 +1,6 @@
 -- What functions below the gatehouse ask of and promise each other; no contract of a public entry speaks of these.
-use Rattle.std.specs.Prelude.{true, false, [], ◌∷◌, Option, Some, None}
-use Rattle.floats.specs.F64.{zero64, one64}
+use Rattle.std.specs.Prelude.{[], Option, Some, None}
+use Rattle.floats.specs.F64.{one64}
 use Rattle.planes.specs.declared.Plane.{Plane}
 use Rattle.planes.specs.Planes.{PlaneOrNoArea, no_area, has_plane}
 

@@ -6,7 +6,7 @@ use mathlib.Core.Bool.{Bool, true, false, not, ◌&&◌, ◌||◌, cond}
 use mathlib.Core.List.{List, [], ◌∷◌}
 use Prim.Native.Nat.{ℕ, ◌-◌, ◌/◌, ◌%◌, ◌<◌, ◌≤◌}
 use native.Mathlib.Omega.{arith}
-use borrow.Author.Tests.{le-ltb, lt-leb, ltb-false, leb-false, eqb-true, eqb-false, not-false, eq-eqb, ne_eqb}
+use borrow.Author.Tests.{le-ltb, lt-leb, ltb-false, leb-false, eqb-true, not-false, ne_eqb}
 use lib.Dec.{T, eqb, leb, ltb}
 use lib.ListN.{length, get_or}
 use lib.Seq.{length-slice}
@@ -132,7 +132,8 @@ unfolding list_refusal
 list_numbers coords e = one_row Number _ (row_known Size ((Number, number_refused coords) ∷ []) (points_refused coords) e).1
 
 -- vertices that can be moved to a local origin: the list passes, and none stays behind
-pub local_zero : (coords : List Float) → local_refusal coords ≡ no_refusal → (list_refusal coords ≡ no_refusal) × (move_refused (vertices_of coords) ≡ false)
+pub local_zero : (coords : List Float) → local_refusal coords ≡ no_refusal
+    → (list_refusal coords ≡ no_refusal) × (move_refused (vertices_of coords) ≡ false)
 unfolding local_refusal
 local_zero coords e =
     let two = or_none_of_both _ _ e in
@@ -146,7 +147,8 @@ plane_counted ps e =
     (known.0, omega (arith, known.0, known.1))
 
 -- ---- a cell and its query points
-module _ (coords : List Float) (corners ends : List ℕ) (queries : List Float) (e : survey_refusal coords corners ends queries ≡ no_refusal) where
+module _ (coords : List Float) (corners ends : List ℕ) (queries : List Float)
+    (e : survey_refusal coords corners ends queries ≡ no_refusal) where
   survey_zero : (first_row ((Size, queries_refused queries) ∷ []) ≡ no_refusal) × (refusal_of coords corners ends queries [] ≡ no_refusal)
   unfolding survey_refusal
   survey_zero = or_none_of_both _ _ e
@@ -220,7 +222,8 @@ phed_known coords cs p e =
 -- ---- the triangles of a face
 -- the check of the cell and the face's number decides where it refuses, else the room does
 module _ (coords : List Float) (corners ends : List ℕ) (k room : ℕ) where
-  pub first_decides : {why : Refusal} → Err why ≡ face_refusal coords corners ends k → Err why ≡ triangles_refusal coords corners ends k room
+  pub first_decides : {why : Refusal} → Err why ≡ face_refusal coords corners ends k
+      → Err why ≡ triangles_refusal coords corners ends k room
   unfolding triangles_refusal
   first_decides f = or_found _ refl f
 

@@ -7,8 +7,8 @@ ghost use Rattle.places.specs.Limits.{most_vertices};
 ghost use Rattle.places.specs.Lists.{Each};
 ghost use Rattle.side_table.specs.Numbers.{Known, Numbering, mentioned, Follows, Named, entry_of};
 
-// The vertex x gets the number k unless it has one. What comes back is how many have one now. 256 is no number: the list has fixed memory of
-// 16 bits a vertex, and an Option would take twice as much.
+// The vertex x gets the number k unless it has one. What comes back is how many have one now. 256 is no number: the list has fixed memory
+// of 16 bits a vertex, and an Option would take twice as much.
 fn number_vertex(number: &mut [u16], k: usize, x: usize) -> usize
     requires { Numbering number.old k × (x < most_vertices) }
     ensures { Named number.old k x number.new result }

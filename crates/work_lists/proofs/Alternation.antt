@@ -42,7 +42,8 @@ cond_not false x y = refl
 
 -- both lists keep their lengths
 sizes : {E : Type 0} {room : ℕ} {change : E → List Point → Change} {e : E} {n : ℕ} {second : Bool} {a b : List Point}
-    {r : Result Step NoRoom} {a' b' : List Point} → Moved room change e n second a b r a' b' → (length a' ≡ length a) × (length b' ≡ length b)
+    {r : Result Step NoRoom} {a' b' : List Point} → Moved room change e n second a b r a' b'
+    → (length a' ≡ length a) × (length b' ≡ length b)
 sizes {second = true} m = (m.long, ap length m.same)
 sizes {second = false} m = (ap length m.same, m.long)
 
@@ -176,7 +177,8 @@ module _ {E : Type 0} (room : ℕ) (change : E → List Point → Change) (es : 
   unfolding clipped_of
   clipped_full h = rw (lt-ltb room (length ps) h) (record { answer = refl; stands = refl })
 
-  pub clipped_run : {r : Result (Option Outline) NoRoom} {a b : List Point} → length ps ≤ room → Ended (run_of change es (outline false ps)) r a b
+  pub clipped_run : {r : Result (Option Outline) NoRoom} {a b : List Point} → length ps ≤ room
+      → Ended (run_of change es (outline false ps)) r a b
       → Ended (clipped_of room change es ps) r a b
   unfolding clipped_of
   clipped_run h q = rw (le-ltb room (length ps) h) q

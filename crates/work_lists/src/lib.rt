@@ -14,6 +14,7 @@ use places::refusal::Refusal;
 pub struct NoRoom;
 
 // An entry that has no room refuses for that reason.
+// Ruled out: no room told as a list of a size that is refused.
 impl From<NoRoom> for Refusal {
     ghost from_gives = { λ _ why. why ≡ Room };
 

@@ -1,5 +1,5 @@
--- `clip::count_out` meets its contract: the chunks of three are the points; those beyond the plane before the place, and those that are left
--- to count, make the whole count.
+-- `clip::count_out` meets its contract: the chunks of three are the points; those beyond the plane before the place, and those that are
+-- left to count, make the whole count.
 use native.Mathlib.Nat.{add-zero}
 use native.Mathlib.Omega.{arith}
 use mathlib.Core.Path.{◌∙◌}

@@ -1,5 +1,5 @@
--- `clip_step::trim_by_plane` meets its contract: the chunks of three are the points; what the sides from the place on leave makes, with what
--- was laid down, the whole; a is the point before the place, and da its distance.
+-- `clip_step::trim_by_plane` meets its contract: the chunks of three are the points; what the sides from the place on leave makes, with
+-- what was laid down, the whole; a is the point before the place, and da its distance.
 use mathlib.Core.Path.{refl, ◌∙◌}
 use native.Mathlib.Omega.{arith}
 use Prim.Native.Nat.{zero-le}

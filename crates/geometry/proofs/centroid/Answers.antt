@@ -1,5 +1,5 @@
 -- `geometry::centroid` meets its contract: a cell that passes the checks has vertices, and the room takes their mean.
-use mathlib.Core.Path.{sym, ◌∙◌}
+use mathlib.Core.Path.{sym}
 use mathlib.Core.List.{[]}
 use native.Mathlib.Omega.{arith}
 use Rattle.cell.proofs.Refusals.{sound}

@@ -1,6 +1,6 @@
 -- `geometry::check_cut` meets its contract: what is not refused is a list of triangles over the places of a face, and `is_cut` tests it;
 -- the test says yes exactly for a cut.
-use mathlib.Core.Path.{sym, ◌∙◌}
+use mathlib.Core.Path.{sym}
 use Rattle.refusals.proofs.Refusals.{check_known}
 use Rattle.geometry.specs.CheckCut.{check_cut_answer}
 use Rattle.geometry.proofs.Answers.{refused}

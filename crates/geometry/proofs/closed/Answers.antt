@@ -1,5 +1,5 @@
 -- `geometry::closed` meets its contract: a cell that passes the checks is sound, and the room tests its sides.
-use mathlib.Core.Path.{sym, ◌∙◌}
+use mathlib.Core.Path.{sym}
 use mathlib.Core.List.{[]}
 use Rattle.cell.proofs.Refusals.{sound}
 use Rattle.places.proofs.Stored.{length_threes}

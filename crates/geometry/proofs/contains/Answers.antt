@@ -1,5 +1,5 @@
 -- `geometry::contains` meets its contract: a cell and a point that pass the checks are sound, and the room counts crossings.
-use mathlib.Core.Path.{sym, ◌∙◌}
+use mathlib.Core.Path.{sym}
 use mathlib.Core.List.{[]}
 use Rattle.cell.proofs.Refusals.{sound}
 use Rattle.geometry.specs.Cells.{contains_answer}

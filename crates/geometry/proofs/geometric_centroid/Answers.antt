@@ -1,5 +1,5 @@
 -- `geometry::geometric_centroid` meets its contract: a cell that passes the checks is sound, and the room computes its centroid.
-use mathlib.Core.Path.{sym, ◌∙◌}
+use mathlib.Core.Path.{sym}
 use mathlib.Core.List.{[]}
 use Rattle.cell.proofs.Refusals.{sound}
 use Rattle.geometry.specs.Cells.{geometric_centroid_answer}

@@ -1,5 +1,5 @@
 -- `geometry::into_ccw` meets its contract: a cell that passes the checks is sound and has no empty face, and the room turns each face.
-use mathlib.Core.Path.{sym, ◌∙◌}
+use mathlib.Core.Path.{sym}
 use mathlib.Core.List.{[]}
 use Rattle.refusals.proofs.Refusals.{faces_known}
 use Rattle.geometry.specs.Cells.{into_ccw_answer}

@@ -1,5 +1,5 @@
 -- `geometry::is_convex` meets its contract: what is known of the shape decides, and where that is nothing the room looks at the faces.
-use mathlib.Core.Path.{sym, ◌∙◌, ap}
+use mathlib.Core.Path.{sym, ap}
 use mathlib.Core.List.{[]}
 use Rattle.cell.proofs.Refusals.{sound}
 use Rattle.geometry.specs.declared.Cell.{Cell}

@@ -4,7 +4,6 @@ use mathlib.Core.Path.{◌≡◌, sym, ◌∙◌}
 use native.Mathlib.Omega.{arith}
 use mathlib.Core.List.{List}
 use Prim.Native.Nat.{ℕ}
-use native.Mathlib.Nat.{sub-zero}
 use lib.ListN.{length, length-take, length-map}
 use Rattle.flat.specs.Points.{Point, vertices_of}
 use Rattle.cell.specs.Faces.{faces_of}

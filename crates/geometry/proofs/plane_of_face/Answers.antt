@@ -1,6 +1,6 @@
 -- `geometry::plane_of_face` meets its contract: a face that passes the checks has corners, all of them vertices, and the room computes
 -- its plane or finds that it has no area.
-use mathlib.Core.Path.{◌≡◌, sym, ◌∙◌}
+use mathlib.Core.Path.{◌≡◌, sym}
 use borrow.Author.Rules.{rules}
 use Rattle.std.specs.Prelude.{Option}
 use Rattle.std.specs.Option.{option_map}

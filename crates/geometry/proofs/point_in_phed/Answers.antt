@@ -1,5 +1,5 @@
 -- `geometry::point_in_phed` meets its contract: a list that passes the checks holds vertices and marks, and the room counts crossings.
-use mathlib.Core.Path.{sym, ◌∙◌}
+use mathlib.Core.Path.{sym}
 use Rattle.geometry.specs.Cells.{point_in_phed_answer}
 use Rattle.geometry.proofs.Answers.{refused, passed}
 use Rattle.refusals.proofs.Refusals.{phed_known}

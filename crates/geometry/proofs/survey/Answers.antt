@@ -1,5 +1,5 @@
 -- `geometry::survey` meets its contract: what passes the checks is sound, and each number is that of its room.
-use mathlib.Core.Path.{sym, ◌∙◌, ap}
+use mathlib.Core.Path.{sym, ap}
 use Rattle.places.proofs.Stored.{length_threes}
 use Rattle.volume.specs.Volume.{volume_of}
 use Rattle.volume.specs.Steps.{measured_of}

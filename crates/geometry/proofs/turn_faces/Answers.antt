@@ -1,6 +1,6 @@
 -- `geometry::turn_faces` meets its contract: a cell that passes the checks is sound, so the room may choose,
 -- and all three ends are promised.
-use mathlib.Core.Path.{sym, ◌∙◌}
+use mathlib.Core.Path.{sym}
 use mathlib.Core.List.{[]}
 use Prim.Native.Nat.{ℕ}
 use native.Mathlib.Omega.{arith}
@@ -40,7 +40,8 @@ choose-requires c =
 
 pub returns-in_err-choose : goal.returns-in_err-choose
 returns-in_err-choose c =
-    turn_faces_none c.args.coords.now c.args.corners.now c.args.ends.now c.in_ok-cell_refusal.ensures c.from_residual-in_err-choose.ensures.1 c.in_err-choose.ensures
+    turn_faces_none c.args.coords.now c.args.corners.now c.args.ends.now c.in_ok-cell_refusal.ensures
+    c.from_residual-in_err-choose.ensures.1 c.in_err-choose.ensures
 
 pub reverse_faces-requires : goal.reverse_faces-requires
 reverse_faces-requires c =

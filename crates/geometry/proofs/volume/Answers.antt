@@ -1,5 +1,5 @@
 -- `geometry::volume` meets its contract: a cell that passes the checks is sound, and the room computes its volume.
-use mathlib.Core.Path.{sym, ◌∙◌}
+use mathlib.Core.Path.{sym}
 use mathlib.Core.List.{[]}
 use Rattle.cell.proofs.Refusals.{sound}
 use Rattle.geometry.specs.Cells.{volume_answer}

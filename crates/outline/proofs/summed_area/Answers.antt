@@ -1,5 +1,5 @@
--- `outline::summed_area` meets its contract: the chunks of two are the points, s is the sum over the sides before place i, and the sides that
--- are left, the last back to the first point, make it the whole.
+-- `outline::summed_area` meets its contract: the chunks of two are the points, s is the sum over the sides before place i, and the sides
+-- that are left, the last back to the first point, make it the whole.
 use mathlib.Core.Path.{refl, ap, ◌∙◌}
 use mathlib.Core.List.{[]}
 use native.Mathlib.Omega.{arith}

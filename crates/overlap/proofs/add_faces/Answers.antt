@@ -1,5 +1,5 @@
--- `overlap::add_faces` meets its contract: from face to face, with the sum so far, it comes to the sum over all faces; the planes that are not
--- yet passed are those of the faces to come, and the lists keep their lengths, so that the room for each face is the same.
+-- `overlap::add_faces` meets its contract: from face to face, with the sum so far, it comes to the sum over all faces; the planes that are
+-- not yet passed are those of the faces to come, and the lists keep their lengths, so that the room for each face is the same.
 use mathlib.Core.Path.{◌≡◌, refl, ap, ◌∙◌}
 use mathlib.Core.Bool.{true}
 use Prim.Native.Nat.{◌*◌, zero-le}
@@ -37,7 +37,9 @@ many_planes c t =
 pub own_plane-found-requires : goal.own_plane-found-requires
 own_plane-found-requires c =
     let at = (goal.at.own_plane-found-requires c).At-loop-end in record {
-      inside = rw c.face-face.ensures (each_slice c.loop-end.start (get_or c.args.ends.now c.loop-end.end-index 0) c.args.corners.now c.requires.sound.inside);
+      inside =
+          let end = get_or c.args.ends.now c.loop-end.end-index 0 in
+          rw c.face-face.ensures (each_slice c.loop-end.start end c.args.corners.now c.requires.sound.inside);
       next = beside_next_face c.loop-end.invariant.2 c.loop-end-test.true refl (many_planes at) c.loop-end.invariant.1
           c.face-face.ensures;
     }
@@ -46,7 +48,9 @@ pub add_face-requires : goal.add_face-requires
 add_face-requires c =
     let others = c.other_part-planes.ensures in
     let same = c.loop-end.invariant.0 in record {
-      ready = ready_at c.loop-end.start (get_or c.args.ends.now c.loop-end.end-index 0) c.requires.sound c.face-face.ensures (rw others c.requires.stocked.few_others)
+      ready =
+          let end = get_or c.args.ends.now c.loop-end.end-index 0 in
+          ready_at c.loop-end.start end c.requires.sound c.face-face.ensures (rw others c.requires.stocked.few_others)
           (rw same.of_first c.requires.first_len_bound.0) (rw same.of_second c.requires.first_len_bound.1);
       found_value = c.own_plane-found.ensures;
       planes_in_bounds = rw (others, same.of_kept) c.requires.stocked.room;

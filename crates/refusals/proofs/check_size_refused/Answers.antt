@@ -1,5 +1,4 @@
 -- `refusals::check_size_refused` meets its contract: its tests of n are those of the definition, and the list's size is asked for in parts.
-use mathlib.Core.Path.{◌≡◌}
 use Rattle.refusals.specs.Refusals.{check_size_refused}
 use Rattle.refusals.specs.Steps.{parts_refused}
 use Rattle.places.proofs.Stored.{length_threes}

@@ -1,6 +1,6 @@
 -- `refusals::faces_refusal` meets its contract: `cell::refusal` decides where it refuses; past it the ends are in order, as the test for
 -- empty faces requires, and that test is the one row left.
-use mathlib.Core.Path.{sym, ◌∙◌}
+use mathlib.Core.Path.{sym}
 use mathlib.Core.List.{[]}
 use Rattle.cell.proofs.Refusals.{sound, no_row}
 use Rattle.places.specs.declared.refusal.Refusal.TheVariants.{EmptyFace}

@@ -1,6 +1,6 @@
 -- `refusals::local_refusal` meets its contract: the list's own refusal decides where there is one; past it there is a vertex and no number
 -- is out of range, as the test for the move requires, and that test is the one row left.
-use mathlib.Core.Path.{sym, ◌∙◌}
+use mathlib.Core.Path.{sym}
 use Rattle.cell.proofs.Refusals.{no_row}
 use Rattle.places.specs.declared.refusal.Refusal.TheVariants.{Inexact}
 use Rattle.refusals.specs.Refusals.{local_refusal}

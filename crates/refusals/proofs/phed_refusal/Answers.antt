@@ -1,7 +1,7 @@
 -- `refusals::phed_refusal` meets its contract: rows 1 and 2 of the definition are two tests each and row 4 is one; a test that holds
 -- decides once those before it have failed.
 use mathlib.Core.Path.{◌≡◌, sym, ◌∙◌}
-use mathlib.Core.Bool.{true, false, ◌||◌}
+use mathlib.Core.Bool.{false, ◌||◌}
 use borrow.Author.Tests.{lt-ltb, le-ltb}
 use lib.Dec.{ltb}
 use lib.ListN.{length}
@@ -40,11 +40,11 @@ pub returns-then-points_refused : goal.returns-then-points_refused
 unfolding phed_refusal
 returns-then-points_refused c =
     row_applies Size _ (
-      elim c.then-points_refused.branch [
-        then-points_refused-via-then-points_refused w ↦ either_first _ c.points_refused.ensures w.if-points_refused.true
+    elim c.then-points_refused.branch [
+      | then-points_refused-via-then-points_refused w ↦ either_first _ c.points_refused.ensures w.if-points_refused.true
       | then-points_refused-via-else-points_refused+then-cs-gt-MOST_MARKED_CORNERS w ↦
-        either_second _ c.points_refused.ensures w.if-points_refused.false (lt-ltb _ _ w.if-cs-gt-MOST_MARKED_CORNERS.true)
-      ]
+          either_second _ c.points_refused.ensures w.if-points_refused.false (lt-ltb _ _ w.if-cs-gt-MOST_MARKED_CORNERS.true)
+    ]
     )
 
 pub returns-then-number_refused : goal.returns-then-number_refused
@@ -52,12 +52,12 @@ unfolding phed_refusal
 returns-then-number_refused c =
     row_passed Size _ (sized (goal.at.returns-then-number_refused c).Else-cs-gt-MOST_MARKED_CORNERS)
     (row_applies Number _ (
-      elim c.then-number_refused.branch [
-        then-number_refused-via-then-number_refused w ↦ either_first _ c.number_refused.ensures w.if-number_refused.true
+    elim c.then-number_refused.branch [
+      | then-number_refused-via-then-number_refused w ↦ either_first _ c.number_refused.ensures w.if-number_refused.true
       | then-number_refused-via-else-number_refused+then-number_refused-2 w ↦
-        either_second _ c.number_refused.ensures w.if-number_refused.false
-        (sym w.number_refused-else-number_refused.ensures ∙ w.if-number_refused-2.true)
-      ]
+          either_second _ c.number_refused.ensures w.if-number_refused.false
+          (sym w.number_refused-else-number_refused.ensures ∙ w.if-number_refused-2.true)
+    ]
     ))
 
 pub strays_in-requires : goal.strays_in-requires

@@ -1,6 +1,6 @@
 -- `refusals::turn_faces_refusal` meets its contract: a refusal of the cell decides, and else `facing::refusal` does, which may be asked as
 -- the cell is then sound.
-use mathlib.Core.Path.{sym, ◌∙◌}
+use mathlib.Core.Path.{sym}
 use mathlib.Core.List.{[]}
 use Rattle.places.proofs.Stored.{length_threes}
 use Rattle.cell.proofs.Refusals.{sound}

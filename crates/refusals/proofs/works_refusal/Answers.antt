@@ -1,5 +1,5 @@
 -- `refusals::works_refusal` meets its contract: the one row of the definition asks for either list, as the code does.
-use mathlib.Core.Path.{◌≡◌, sym, ◌∙◌}
+use mathlib.Core.Path.{◌≡◌}
 use mathlib.Core.Bool.{◌||◌}
 use Rattle.cell.proofs.Refusals.{no_row}
 use Rattle.refusals.specs.Refusals.{work_refused, works_refusal}
@@ -9,7 +9,8 @@ use Rattle.refusals.proofs.works_refusal.Goals as goal
 use Rattle.refusals.proofs.works_refusal.Goals.{After-work_refused-2}
 
 -- the code asks for both lists as the definition does
-asked : (c : After-work_refused-2) → c.work_refused.result || c.work_refused-2.result ≡ work_refused c.args.first.now || work_refused c.args.second.now
+asked : (c : After-work_refused-2)
+    → c.work_refused.result || c.work_refused-2.result ≡ work_refused c.args.first.now || work_refused c.args.second.now
 asked c = rw (c.work_refused.ensures, c.work_refused-2.ensures)
 
 pub returns-then-work_refused : goal.returns-then-work_refused

@@ -1,5 +1,5 @@
--- `clip_step::doubled::doubled_within` meets its contract: the chunks of three are the points, m is the largest magnitude among those before
--- the place, and those that are left make it that of all points; 2^-46 is the definition's constant.
+-- `clip_step::doubled::doubled_within` meets its contract: the chunks of three are the points, m is the largest magnitude among those
+-- before the place, and those that are left make it that of all points; 2^-46 is the definition's constant.
 use mathlib.Core.Path.{◌∙◌}
 use mathlib.Core.List.{[]}
 use native.Mathlib.Omega.{arith}

@@ -20,7 +20,8 @@ unfolding newell_of
 loop-v-init c =
     let split = c.in-Some.ensures.cases in
     let corners = length_corners (vertices_of c.args.coords.now) c.args.face.now in
-    walk_start [] (omega (arith, split.1)) (cc (corner_at (vertices_of c.args.coords.now) c.args.face.now 0 (omega (arith, split.1)), ap (λ (f : List ℕ). get_or f 0 0) split.0)) refl
+    let first = corner_at (vertices_of c.args.coords.now) c.args.face.now 0 (omega (arith, split.1)) in
+    walk_start [] (omega (arith, split.1)) (cc (first, ap (λ (f : List ℕ). get_or f 0 0) split.0)) refl
 
 pub vertex-b-requires : goal.vertex-b-requires
 vertex-b-requires c =

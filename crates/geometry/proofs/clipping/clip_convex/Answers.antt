@@ -1,6 +1,6 @@
 -- `geometry::clipping::clip_convex` meets its contract: lists that pass the checks are short enough for the room, which settles both
 -- work lists.
-use mathlib.Core.Path.{sym, ◌∙◌, ap}
+use mathlib.Core.Path.{sym, ap}
 use borrow.Author.Rules.{rules}
 use Rattle.std.specs.Prelude.{Ok}
 use Rattle.places.proofs.Refusals.{handed_on}

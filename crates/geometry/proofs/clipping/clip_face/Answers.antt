@@ -1,6 +1,6 @@
 -- `geometry::clipping::clip_face` meets its contract: a face that passes the checks is one of the cell, all lists are short enough for
 -- the room, and the room settles both work lists.
-use mathlib.Core.Path.{sym, ◌∙◌, ap}
+use mathlib.Core.Path.{sym, ap}
 use borrow.Author.Rules.{rules}
 use Rattle.std.specs.Prelude.{Ok}
 use Rattle.places.proofs.Refusals.{handed_on}

@@ -1,5 +1,5 @@
 -- `geometry::in_plane::into_ccw2` meets its contract: a list that passes the checks comes in pairs, and the room turns it.
-use mathlib.Core.Path.{sym, ◌∙◌}
+use mathlib.Core.Path.{sym}
 use Rattle.refusals.proofs.Refusals.{plane_counted}
 use Rattle.geometry.specs.Points.{into_ccw2_answer}
 use Rattle.geometry.proofs.Answers.{refused_beside, passed_beside}

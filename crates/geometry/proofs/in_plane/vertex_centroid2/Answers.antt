@@ -1,5 +1,5 @@
 -- `geometry::in_plane::vertex_centroid2` meets its contract: the room takes the mean of the points, and its coordinates get names.
-use mathlib.Core.Path.{sym, ◌∙◌}
+use mathlib.Core.Path.{sym}
 use Rattle.geometry.specs.Points.{vertex_centroid2_answer}
 use Rattle.geometry.proofs.Answers.{refused, passed}
 use Rattle.refusals.proofs.Refusals.{plane_counted}

@@ -1,6 +1,6 @@
 -- `geometry::in_space::local_origin` meets its contract: a list that passes the checks has a vertex and no number out of range, and the
 -- room brings the first vertex to whole numbers.
-use mathlib.Core.Path.{sym, ◌∙◌}
+use mathlib.Core.Path.{sym}
 use Rattle.geometry.specs.Points.{local_origin_answer}
 use Rattle.geometry.proofs.Answers.{refused, passed}
 use Rattle.refusals.proofs.Refusals.{list_counted, list_numbers, local_zero}

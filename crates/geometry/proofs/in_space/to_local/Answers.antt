@@ -1,6 +1,6 @@
 -- `geometry::in_space::to_local` meets its contract: a list that passes the checks comes in threes, has a vertex and no number out of
 -- range; the room finds the local origin and takes it off every vertex.
-use mathlib.Core.Path.{sym, ◌∙◌}
+use mathlib.Core.Path.{sym}
 use Rattle.geometry.specs.Points.{to_local_answer}
 use Rattle.geometry.proofs.Answers.{refused_beside, passed_beside}
 use Rattle.refusals.proofs.Refusals.{list_counted, list_numbers, local_zero}

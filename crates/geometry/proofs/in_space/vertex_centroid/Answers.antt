@@ -1,5 +1,5 @@
 -- `geometry::in_space::vertex_centroid` meets its contract: the room takes the mean of the points, and its coordinates get names.
-use mathlib.Core.Path.{sym, ◌∙◌}
+use mathlib.Core.Path.{sym}
 use native.Mathlib.Omega.{arith}
 use Rattle.places.proofs.Stored.{length_threes}
 use Rattle.geometry.specs.Points.{vertex_centroid_answer}

@@ -1,5 +1,5 @@
--- `overlap::tolerances::add_points` meets its contract: the chunks of three are the points, and from the place on, the sum so far comes to the
--- whole fold over the points.
+-- `overlap::tolerances::add_points` meets its contract: the chunks of three are the points, and from the place on, the sum so far comes to
+-- the whole fold over the points.
 use mathlib.Core.Path.{◌∙◌}
 use mathlib.Core.List.{[]}
 use native.Mathlib.Omega.{arith}

@@ -1,12 +1,11 @@
--- Values written one by one to the front of a list, and what a caller is told of them.
+-- What a caller is told of values that were put at the front of a list, and of a clipping.
 use mathlib.Core.Path.{◌≡◌, refl, sym, ◌∙◌, ap}
 use mathlib.Core.Logic.{◌≢◌}
-use mathlib.Core.Bool.{Bool, true, false}
-use mathlib.Core.List.{List, [], ◌++◌, append_assoc}
-use Prim.Native.Nat.{ℕ, suc, ◌+◌, ◌≤◌, ◌<◌, zero-le}
+use mathlib.Core.Bool.{Bool, true, false, cond, ◌||◌}
+use mathlib.Core.List.{List, []}
+use Prim.Native.Nat.{ℕ, ◌≤◌, ◌<◌, zero-le}
 use native.Mathlib.Omega.{arith}
-use lib.ListN.{length, get_or, set, take, drop, length-append, length-drop}
-use lib.Seq.{take-suc, drop-cons, set_at, take_all, length-take-le}
+use lib.ListN.{length}
 use lib.Ieee.{Float}
 use borrow.Author.Tests.{lt-ltb, le-ltb}
 use Rattle.geometry.specs.declared.Outline.{Outline}
@@ -15,52 +14,23 @@ use Rattle.std.specs.Prelude.{Option, None, Some, Ok, Err}
 use Rattle.geometry.specs.Answers.{front}
 use Rattle.geometry.specs.Listed.{values, Reply, told, too_short, written, of_clipped, hidden, clipping_told}
 
--- the first i values stand at the front of the list, and behind them what stood there before
-pub record Copied {A : Type 0} (vs before : List A) (i : ℕ) (list : List A) : Type 0 where
-  pub within : i ≤ length vs
-  pub room : length vs ≤ length before
-  pub so : list ≡ take i vs ++ drop i before
-
-module _ {A : Type 0} {vs before : List A} where
-  pub copy_start : length vs ≤ length before → Copied vs before 0 before
-  copy_start h = record { within = omega arith; room = h; so = refl }
-
-  pub copy_long : {i : ℕ} {list : List A} → Copied vs before i list → length list ≡ length before
-  copy_long {i} {list} c =
-      ap length c.so ∙ length-append (take i vs) (drop i before)
-      ∙ omega (arith, length-take-le i vs c.within, length-drop i before, c.within, c.room)
-
-  pub copy_step : {i : ℕ} {list : List A} (d : A) → Copied vs before i list → i < length vs
-      → Copied vs before (i + 1) (set list i (get_or vs i d))
-  copy_step {i} {list} d c h = record {
-    within = omega arith;
-    room = c.room;
-    so =
-        let room = c.room in
-        let e : i + 1 ≡ suc i = omega arith in
-        let seam = set_at (take i vs) (get_or before i d) (drop (suc i) before) (get_or vs i d) i (length-take-le i vs c.within) in
-        rw (c.so, drop-cons before i d (omega arith)) (seam ∙ rw (e, take-suc vs i d h, append_assoc));
-  }
-
-  pub copy_end : {i : ℕ} {list : List A} → Copied vs before i list → length vs ≤ i → list ≡ front vs before
-  copy_end {i} {list} c h =
-      let e : i ≡ length vs = omega (arith, c.within) in
-      c.so ∙ rw (e, take_all (length vs) vs (omega arith))
-
 -- ---- what a caller is told of numbers alone, and of counts alone
-module _ (vs xs : List Float) where
-  pub numbers_short : length xs < length vs → told 6 xs [] ≡ written (values vs []) xs []
-  numbers_short h = rw (lt-ltb (length xs) (length vs) h)
+numbers_if : (short : Bool) (xs new : List Float)
+    → told (cond short 6 0) (cond short xs new) [] ≡ cond (short || false) (told 6 xs []) (told 0 new [])
+numbers_if true xs new = refl
+numbers_if false xs new = refl
 
-  pub numbers_put : {after : List Float} → length vs ≤ length xs → after ≡ front vs xs → told 0 after [] ≡ written (values vs []) xs []
-  numbers_put h e = rw (le-ltb (length xs) (length vs) h, e)
+pub numbers_told : (vs xs : List Float) {r : ℕ} {after : List Float} → r ≡ cond (too_short vs xs) 6 0
+    → after ≡ cond (too_short vs xs) xs (front vs xs) → told r after [] ≡ written (values vs []) xs []
+numbers_told vs xs code list = rw (code, list) (numbers_if (too_short vs xs) xs (front vs xs))
 
-module _ (ms ns : List ℕ) where
-  pub counts_short : length ns < length ms → told 6 [] ns ≡ written (values [] ms) [] ns
-  counts_short h = rw (lt-ltb (length ns) (length ms) h)
+counts_if : (short : Bool) (ns new : List ℕ) → told (cond short 6 0) [] (cond short ns new) ≡ cond short (told 6 [] ns) (told 0 [] new)
+counts_if true ns new = refl
+counts_if false ns new = refl
 
-  pub counts_put : {after : List ℕ} → length ms ≤ length ns → after ≡ front ms ns → told 0 [] after ≡ written (values [] ms) [] ns
-  counts_put h e = rw (le-ltb (length ns) (length ms) h, e)
+pub counts_told : (ms ns : List ℕ) {r : ℕ} {after : List ℕ} → r ≡ cond (too_short ms ns) 6 0
+    → after ≡ cond (too_short ms ns) ns (front ms ns) → told r [] after ≡ written (values [] ms) [] ns
+counts_told ms ns code list = rw (code, list) (counts_if (too_short ms ns) ns (front ms ns))
 
 -- counts beside a list of numbers that is not written to
 pub counts_beside : (ms : List ℕ) (xs : List Float) (ns : List ℕ) {code : ℕ} {after : List ℕ}

@@ -1,5 +1,5 @@
 // What comes in under C names: the corners of a fixed shape in one list, and what is known of a shape as a number.
-ghost use Rattle.std.specs.Prelude.{◌≡◌, length};
+ghost use Rattle.std.specs.Prelude.{◌≡◌, ◌*◌, length};
 ghost use Rattle.geometry.specs.Leaves.{vertices_of};
 ghost use Rattle.geometry.specs.Listed.{shape_known};
 
@@ -16,46 +16,15 @@ pub fn shape_known(shape: u8) -> geometry::Convexity
     }
 }
 
-// The corners of a shape of four, six and eight.
+// The corners of a shape of N.
 // Ruled out: a corner read from place k on and not from 3 k; the corners from the last to the first.
-pub fn four(p: &[f64]) -> [[f64; 3]; 4]
-    requires { length p.now ≡ 12 }
+#[tactic(auto, using(places::proofs::Stored::threes_chunks))]
+pub fn vertices<const N: usize>(p: &[f64]) -> [[f64; 3]; N]
+    requires { length p.now ≡ N * 3 }
     ensures { result ≡ vertices_of p.now }
 {
-    [
-        flat::space::vertex(p, 0),
-        flat::space::vertex(p, 1),
-        flat::space::vertex(p, 2),
-        flat::space::vertex(p, 3),
-    ]
-}
-
-pub fn six(p: &[f64]) -> [[f64; 3]; 6]
-    requires { length p.now ≡ 18 }
-    ensures { result ≡ vertices_of p.now }
-{
-    [
-        flat::space::vertex(p, 0),
-        flat::space::vertex(p, 1),
-        flat::space::vertex(p, 2),
-        flat::space::vertex(p, 3),
-        flat::space::vertex(p, 4),
-        flat::space::vertex(p, 5),
-    ]
-}
-
-pub fn eight(p: &[f64]) -> [[f64; 3]; 8]
-    requires { length p.now ≡ 24 }
-    ensures { result ≡ vertices_of p.now }
-{
-    [
-        flat::space::vertex(p, 0),
-        flat::space::vertex(p, 1),
-        flat::space::vertex(p, 2),
-        flat::space::vertex(p, 3),
-        flat::space::vertex(p, 4),
-        flat::space::vertex(p, 5),
-        flat::space::vertex(p, 6),
-        flat::space::vertex(p, 7),
-    ]
+    let (points, _) = p.as_chunks::<3>();
+    let mut vs = [[0.0; 3]; N];
+    vs.copy_from_slice(points);
+    vs
 }

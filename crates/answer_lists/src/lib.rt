@@ -4,54 +4,44 @@
 pub mod given;
 pub mod shown;
 
+ghost use Rattle.std.specs.Prelude.{◌≡◌, [], cond};
+ghost use Rattle.places.specs.Refusals.{number_of};
+ghost use Rattle.places.specs.declared.refusal.Refusal.TheVariants.{Room};
+ghost use Rattle.geometry.specs.Answers.{front};
+ghost use Rattle.geometry.specs.Listed.{told, values, written, too_short, shape_number};
+ghost use Rattle.geometry.specs.Listed.{of_number, of_truth, of_count, of_face_cut, of_place};
+ghost use Rattle.geometry.specs.Listed.{of_plane_place, of_extent, of_plane_extent, of_done, of_surveyed, of_described, of_face_plane};
+ghost use Rattle.geometry.specs.Listed.{of_clipped, of_overlapped, code_without_room};
+
 use places::refusal::Refusal;
 
-ghost use Rattle.std.specs.Prelude.{◌≡◌, []};
-ghost use Rattle.places.specs.Loops.{one_if};
-ghost use Rattle.geometry.specs.Listed.{told, values, written, shape_number, of_number, of_truth, of_count, of_face_cut, of_place};
-ghost use Rattle.geometry.specs.Listed.{of_plane_place, of_extent, of_plane_extent, of_done, of_surveyed, of_described, of_face_plane};
-ghost use Rattle.geometry.specs.Listed.{of_clipped};
-ghost use Rattle.geometry.specs.Listed.{of_overlapped};
-ghost use Rattle.geometry.specs.Listed.{code_without_room};
-
-// 1 for yes, 0 for no, as a byte, which a function answers.
-pub fn bit(b: bool) -> u8
-    ensures { result ≡ one_if b }
+// Values at the front of a list, if it has the room.
+// Ruled out: a list that is too short by one written to; the last value left out.
+fn put_front<T: Copy>(vs: &[T], out: &mut [T]) -> u8
+    ensures code { result ≡ cond (too_short vs.now out.old) (number_of Room) 0 }
+    ensures list { out.new ≡ cond (too_short vs.now out.old) out.old (front vs.now out.old) }
 {
-    if b { 1 } else { 0 }
+    if out.len() < vs.len() {
+        return u8::from(Refusal::Room);
+    }
+    out[..vs.len()].copy_from_slice(vs);
+    0
 }
 
 // Numbers at the front of a list, if it has the room.
-// Ruled out: a list that is too short by one written to; the last number left out.
+#[tactic(auto, using(crate::proofs::Writing::numbers_told))]
 pub fn put(vs: &[f64], out: &mut [f64]) -> u8
     ensures { told result out.new [] ≡ written (values vs.now []) out.old [] }
 {
-    let n = vs.len();
-    if out.len() < n {
-        return u8::from(Refusal::Room);
-    }
-    let mut i = 0;
-    while i < n {
-        out[i] = vs[i];
-        i += 1;
-    }
-    0
+    put_front(vs, out)
 }
 
 // Counts at the front of a list, if it has the room.
+#[tactic(auto, using(crate::proofs::Writing::counts_told))]
 pub fn put_counts(vs: &[usize], out: &mut [usize]) -> u8
     ensures { told result [] out.new ≡ written (values [] vs.now) [] out.old }
 {
-    let n = vs.len();
-    if out.len() < n {
-        return u8::from(Refusal::Room);
-    }
-    let mut i = 0;
-    while i < n {
-        out[i] = vs[i];
-        i += 1;
-    }
-    0
+    put_front(vs, out)
 }
 
 // Numbers at the front of one list and counts at that of another, in neither unless both have the room.
@@ -165,24 +155,22 @@ pub fn untold(a: Result<(), Refusal>) -> u8
 }
 
 // A survey goes into two lists.
-pub fn put_surveyed(a: Result<geometry::Findings, Refusal>, counts: &mut [usize], volume: &mut [f64]) -> u8
+pub fn put_surveyed(
+    a: Result<geometry::Findings, Refusal>,
+    counts: &mut [usize],
+    volume: &mut [f64],
+) -> u8
     ensures { told result volume.new counts.new ≡ written (of_surveyed a) volume.old counts.old }
 {
     match a {
-        Ok(s) => put_survey(s, counts, volume),
+        Ok(s) => put_both(
+            &[s.volume],
+            &[s.triangles, places::one_if(s.closed), s.short, s.contained],
+            volume,
+            counts,
+        ),
         Err(why) => u8::from(why),
     }
-}
-
-fn put_survey(s: geometry::Findings, counts: &mut [usize], volume: &mut [f64]) -> u8
-    ensures { told result volume.new counts.new ≡ written (of_surveyed (Ok s)) volume.old counts.old }
-{
-    put_both(
-        &[s.volume],
-        &[s.triangles, places::one_if(s.closed), s.short, s.contained],
-        volume,
-        counts,
-    )
 }
 
 // What is known of a shape, as a number.
@@ -197,18 +185,14 @@ fn shape_number(shape: geometry::Convexity) -> usize
 }
 
 // A cell's description: how many vertices, corners and faces, and what is known of its shape.
-fn put_cell(c: geometry::Cell, out: &mut [usize]) -> u8
-    ensures { told result [] out.new ≡ written (of_described (Ok c)) [] out.old }
-{
-    let shape = c.convexity;
-    put_counts(&[c.vertices, c.corners, c.faces, shape_number(shape)], out)
-}
-
 pub fn put_described(a: Result<geometry::Cell, Refusal>, out: &mut [usize]) -> u8
     ensures { told result [] out.new ≡ written (of_described a) [] out.old }
 {
     match a {
-        Ok(c) => put_cell(c, out),
+        Ok(c) => put_counts(
+            &[c.vertices, c.corners, c.faces, shape_number(c.convexity)],
+            out,
+        ),
         Err(why) => u8::from(why),
     }
 }
@@ -229,16 +213,15 @@ pub fn put_face_plane(
 }
 
 // The overlap of two cells: its volume, and how many faces of the first and of the second have no area.
-pub fn put_overlapped(a: Result<geometry::Shared, Refusal>, out: &mut [f64], arealess: &mut [usize]) -> u8
+pub fn put_overlapped(
+    a: Result<geometry::Shared, Refusal>,
+    out: &mut [f64],
+    arealess: &mut [usize],
+) -> u8
     ensures { told result out.new arealess.new ≡ written (of_overlapped a) out.old arealess.old }
 {
     match a {
-        Ok(o) => put_both(
-            &[o.volume],
-            &[o.arealess, o.arealess2],
-            out,
-            arealess,
-        ),
+        Ok(o) => put_both(&[o.volume], &[o.arealess, o.arealess2], out, arealess),
         Err(why) => u8::from(why),
     }
 }

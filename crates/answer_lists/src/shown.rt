@@ -1,11 +1,15 @@
 // What a clipping shows, and both work lists where there is no room to say so.
-use places::refusal::Refusal;
-
 ghost use Rattle.std.specs.Prelude.{◌≡◌, []};
 ghost use Rattle.geometry.specs.Listed.{told, written, of_clipped, hidden, clipping_told};
 
+use places::refusal::Refusal;
+
 // The code of a clipping where nothing can be shown: its refusal, else 6; an outline that it left is cleared away.
-fn unshown(a: Result<Option<geometry::Outline>, Refusal>, first: &mut [f64], second: &mut [f64]) -> u8
+fn unshown(
+    a: Result<Option<geometry::Outline>, Refusal>,
+    first: &mut [f64],
+    second: &mut [f64],
+) -> u8
     ensures code { told result [] [] ≡ written (of_clipped a) [] [] }
     ensures first { first.new ≡ hidden a first.old }
     ensures second { second.new ≡ hidden a second.old }

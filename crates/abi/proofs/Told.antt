@@ -25,12 +25,12 @@ use Rattle.geometry.specs.Listed.{measure_told, of_overlapped, overlap_told, of_
 use Rattle.geometry.specs.Listed.{TurnFacesTold}
 
 -- ---- beside the work lists
-pub shown_by : {c d : Answer (Option Outline) × List Float × List Float} → c ≡ d → (shown : List ℕ) {t : ℕ × List ℕ × List Float × List Float}
-    → t ≡ clipping_told c shown → t ≡ clipping_told d shown
+pub shown_by : {c d : Answer (Option Outline) × List Float × List Float} → c ≡ d → (shown : List ℕ)
+    {t : ℕ × List ℕ × List Float × List Float} → t ≡ clipping_told c shown → t ≡ clipping_told d shown
 shown_by e shown p = p ∙ ap (λ x. clipping_told x shown) e
 
-pub measured_by : {a : Answer Float} {first second : List Float} {answer : Answer Float × List Float × List Float} → (a, first, second) ≡ answer
-    → (out : List Float) {r : ℕ} {out' : List Float} → told r out' [] ≡ written (of_number a) out [] →
+pub measured_by : {a : Answer Float} {first second : List Float} {answer : Answer Float × List Float × List Float}
+    → (a, first, second) ≡ answer → (out : List Float) {r : ℕ} {out' : List Float} → told r out' [] ≡ written (of_number a) out [] →
     (r, out', first, second) ≡ measure_told answer out
 measured_by e out p = rw (← e, ap (λ (t : Reply). t.0) p, ap (λ (t : Reply). t.1) p)
 
@@ -41,8 +41,8 @@ pub overlapped_by : {a : Answer Shared} {first second : List Float} {answer : An
 overlapped_by e out arealess p = rw (← e, ap (λ (t : Reply). t.0) p, ap (λ (t : Reply). t.1) p, ap (λ (t : Reply). t.2) p)
 
 -- ---- beside a list that is turned
-pub done_by : {L : Type 0} {a : Check} {list : L} {answer : Check × L} {r : ℕ} → (a, list) ≡ answer → told r [] [] ≡ written (of_done a) [] []
-    → ◌≡◌ {A = ℕ × L} (r, list) (done_told answer)
+pub done_by : {L : Type 0} {a : Check} {list : L} {answer : Check × L} {r : ℕ} → (a, list) ≡ answer
+    → told r [] [] ≡ written (of_done a) [] [] → ◌≡◌ {A = ℕ × L} (r, list) (done_told answer)
 done_by e p = rw (← e, ap (λ (t : Reply). t.0) p)
 
 -- ---- a fixed shape in one list

@@ -1,6 +1,4 @@
 // The entries on a cell.
-use places::refusal::Refusal;
-
 ghost use Rattle.std.specs.Prelude.{◌≡◌, [], ◌∷◌};
 ghost use Rattle.geometry.specs.Cells.{volume_answer, centroid_answer, geometric_centroid_answer, bounds_answer, scale_answer};
 ghost use Rattle.geometry.specs.Cells.{closed_answer, contains_answer, point_in_phed_answer, triangles_answer};
@@ -8,6 +6,8 @@ ghost use Rattle.geometry.specs.Survey.{survey_answer};
 ghost use Rattle.geometry.specs.CheckCut.{check_cut_answer};
 ghost use Rattle.geometry.specs.Listed.{told, written, of_number, of_truth, of_face_cut, of_place, of_extent, of_surveyed, triangles_told};
 ghost use Rattle.geometry.specs.Listed.{triangle_places_told};
+
+use places::refusal::Refusal;
 
 pub fn wegrusamt_volume(coords: &[f64], corners: &[u32], ends: &[u32], out: &mut [f64]) -> u8
     ensures { told result out.new [] ≡ written (of_number (volume_answer coords.now corners.now ends.now)) out.old [] }
@@ -85,8 +85,7 @@ pub fn wegrusamt_point_in_phed(
 fn uncounted(coords: &[f64], corners: &[u32], ends: &[u32], face: u32) -> u8
     ensures { told result [] [] ≡ written (of_face_cut (triangles_answer coords.now corners.now ends.now face []).0) [] [] }
 {
-    let mut none = [[0; 3]; 1];
-    match geometry::triangles(coords, corners, ends, face, &mut none[..0]) {
+    match geometry::triangles(coords, corners, ends, face, &mut []) {
         Ok(_) => u8::from(Refusal::Room),
         Err(why) => u8::from(why),
     }

@@ -131,7 +131,7 @@ pub fn wegrusamt_plane_same_side(
         n: [bx, by, bz],
         d: bd,
     };
-    answer_lists::bit(geometry::leaves::plane_same_side(a, b, tol))
+    u8::from(geometry::leaves::plane_same_side(a, b, tol))
 }
 
 pub fn wegrusamt_plane_coplanar_opposite(
@@ -156,5 +156,5 @@ pub fn wegrusamt_plane_coplanar_opposite(
         n: [bx, by, bz],
         d: bd,
     };
-    answer_lists::bit(geometry::leaves::plane_coplanar_opposite(a, b, tol))
+    u8::from(geometry::leaves::plane_coplanar_opposite(a, b, tol))
 }

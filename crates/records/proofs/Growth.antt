@@ -1,20 +1,21 @@
 -- The counts grow with what a record adds and keep within the limits, whatever its kind (`tally_follows`): so what the lists hold of the
 -- cell is what the tally counts.
 use mathlib.Core.Path.{◌≡◌, refl}
-use mathlib.Core.Bool.{Bool, true, false, ◌&&◌, cond}
+use mathlib.Core.Bool.{Bool, true, false, cond}
 use mathlib.Core.List.{List, [], ◌∷◌}
-use Prim.Native.Nat.{ℕ, zero, suc, ◌+◌, ◌*◌, ◌<◌}
+use Prim.Native.Nat.{ℕ, ◌+◌, ◌*◌}
 use native.Mathlib.Omega.{arith}
-use lib.Dec.{eqb}
 use lib.ListN.{length}
 use lib.Ieee.{Float}
-use borrow.Author.Tests.{ne_eqb}
-use Rattle.std.specs.Prelude.{Ok, Err}
+use Rattle.std.specs.Prelude.{Option, None, Some, Ok, Err}
 use Rattle.std.specs.Option.{is_none}
 use Rattle.places.specs.declared.refusal.Refusal.{Refusal}
 use Rattle.places.specs.declared.refusal.Refusal.TheVariants.{Record}
 use Rattle.places.specs.Refusals.{Check, no_refusal}
+use Rattle.records.specs.declared.bytes.Kind.{Kind}
+use Rattle.records.specs.declared.bytes.Kind.TheVariants.{Vertex, Corner, FaceEnd, CellEnd, Query}
 use Rattle.records.specs.declared.bytes.Rec.{Rec}
+use Rattle.records.specs.Bytes.{by_kind}
 use Rattle.records.specs.declared.tally.Tally.{Tally}
 use Rattle.records.specs.Tally.{vertex_why, corner_why, face_end_why, cell_end_why, query_why, corner_fine, end_fine, fields_of, added}
 use Rattle.records.specs.Tally.{vertex_taken, corner_taken, face_end_taken, cell_end_taken, query_taken, refused_of, tally_of, unless}
@@ -34,9 +35,6 @@ pub record Follows (t : Tally) (a : List Float) (b c : List ℕ) (d : List Float
 nothing : {A : Type 0} (w : Check) → ◌≡◌ {A = List A} (added w []) []
 nothing (Ok _) = refl
 nothing (Err _) = refl
-
-other : (n k : ℕ) → k < n → eqb n k ≡ false
-other n k h = ne_eqb n k (λ e. omega arith)
 
 module _ (t : Tally) (r : Rec) (f : Fits t) where
   none : Follows t [] [] [] [] t
@@ -133,27 +131,18 @@ module _ (t : Tally) (r : Rec) (f : Fits t) where
         fits = record { few_verts = f.few_verts; few_corners = f.few_corners; few_faces = f.few_faces; few_queries = f.few_queries };
       }))
 
-  by_kind : (k : ℕ)
-      → Follows t (cond (eqb k 1) (added (vertex_why t r) (fields_of r)) []) (cond (eqb k 2) (added (corner_why t r) (r.a ∷ [])) [])
-      (cond (eqb k 3) (added (face_end_why t r) (t.corners ∷ [])) []) (cond (eqb k 5) (added (query_why t r) (fields_of r)) [])
-      (cond (eqb k 1) (vertex_taken t r)
-      (cond (eqb k 2) (corner_taken t r)
-      (cond (eqb k 3) (face_end_taken t r) (cond (eqb k 4) (cell_end_taken t r) (cond (eqb k 5) (query_taken t r) (refused_of t Record))))))
-  by_kind zero = refused Record
-  by_kind (suc zero) = vertex
-  by_kind (suc (suc zero)) = corner
-  by_kind (suc (suc (suc zero))) = face_end_lem
-  by_kind (suc (suc (suc (suc zero)))) = cell_end
-  by_kind (suc (suc (suc (suc (suc zero))))) = query
-  by_kind (suc (suc (suc (suc (suc (suc k)))))) =
-      let n = suc (suc (suc (suc (suc (suc k))))) in
-      rw (
-        other n 1 (omega arith),
-        other n 2 (omega arith),
-        other n 3 (omega arith),
-        other n 4 (omega arith),
-        other n 5 (omega arith),
-      ) (refused Record)
+  kinds : (k : Option Kind)
+      → Follows t (by_kind k (added (vertex_why t r) (fields_of r)) [] [] [] [] [])
+      (by_kind k [] (added (corner_why t r) (r.a ∷ [])) [] [] [] [])
+      (by_kind k [] [] (added (face_end_why t r) (t.corners ∷ [])) [] [] [])
+      (by_kind k [] [] [] [] (added (query_why t r) (fields_of r)) [])
+      (by_kind k (vertex_taken t r) (corner_taken t r) (face_end_taken t r) (cell_end_taken t r) (query_taken t r) (refused_of t Record))
+  kinds (Some Vertex) = vertex
+  kinds (Some Corner) = corner
+  kinds (Some FaceEnd) = face_end_lem
+  kinds (Some CellEnd) = cell_end
+  kinds (Some Query) = query
+  kinds None = refused Record
 
   -- a refused cell stays as it is
   pub tally_follows : Follows t (new_coords t r) (new_corners t r) (new_ends t r) (new_queries t r) (tally_of t r)
@@ -161,13 +150,11 @@ module _ (t : Tally) (r : Rec) (f : Fits t) where
   tally_follows = go (is_none t.refusal)
     where
       go : (b : Bool)
-          → Follows t (cond (b && eqb r.kind 1) (added (vertex_why t r) (fields_of r)) [])
-          (cond (b && eqb r.kind 2) (added (corner_why t r) (r.a ∷ [])) [])
-          (cond (b && eqb r.kind 3) (added (face_end_why t r) (t.corners ∷ [])) [])
-          (cond (b && eqb r.kind 5) (added (query_why t r) (fields_of r)) [])
-          (cond b (cond (eqb r.kind 1) (vertex_taken t r)
-          (cond (eqb r.kind 2) (corner_taken t r)
-          (cond (eqb r.kind 3) (face_end_taken t r)
-          (cond (eqb r.kind 4) (cell_end_taken t r) (cond (eqb r.kind 5) (query_taken t r) (refused_of t Record)))))) t)
-      go true = by_kind r.kind
+          → Follows t (cond b (by_kind r.kind (added (vertex_why t r) (fields_of r)) [] [] [] [] []) [])
+          (cond b (by_kind r.kind [] (added (corner_why t r) (r.a ∷ [])) [] [] [] []) [])
+          (cond b (by_kind r.kind [] [] (added (face_end_why t r) (t.corners ∷ [])) [] [] []) [])
+          (cond b (by_kind r.kind [] [] [] [] (added (query_why t r) (fields_of r)) []) [])
+          (cond b (by_kind r.kind (vertex_taken t r) (corner_taken t r) (face_end_taken t r) (cell_end_taken t r) (query_taken t r)
+          (refused_of t Record)) t)
+      go true = kinds r.kind
       go false = none

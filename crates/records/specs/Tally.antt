@@ -10,6 +10,7 @@ use Rattle.places.specs.Refusals.{Check, no_refusal}
 use Rattle.places.specs.Limits.{most_vertices, most_coordinates, most_faces, most_corners, most_queries}
 use Rattle.records.specs.declared.bytes.Rec.{Rec}
 use Rattle.records.specs.declared.tally.Tally.{Tally}
+use Rattle.records.specs.Bytes.{by_kind}
 
 -- ---- what speaks against a record
 -- that it is bad, or that it is one more than there is room for; a bad record comes before no room
@@ -134,33 +135,25 @@ added (Err _) xs = []
 unfoldable pub tally_of : Tally → Rec → Tally
 tally_of t r =
     cond (is_none t.refusal)
-    (cond (eqb r.kind 1) (vertex_taken t r)
-    (cond (eqb r.kind 2) (corner_taken t r)
-    (cond (eqb r.kind 3) (face_end_taken t r)
-    (cond (eqb r.kind 4) (cell_end_taken t r)
-    (cond (eqb r.kind 5) (query_taken t r)
-    (refused_of t Record))))))
+    (by_kind r.kind (vertex_taken t r) (corner_taken t r) (face_end_taken t r) (cell_end_taken t r) (query_taken t r)
+    (refused_of t Record))
     t
-
--- a record is of kind k and not skipped
-abbrev pub takes : Tally → Rec → ℕ → Bool
-takes t r k = is_none t.refusal && eqb r.kind k
 
 -- to the coordinates a vertex adds its three fields
 unfoldable pub new_coords : Tally → Rec → List Float
-new_coords t r = cond (takes t r 1) (added (vertex_why t r) (fields_of r)) []
+new_coords t r = cond (is_none t.refusal) (by_kind r.kind (added (vertex_why t r) (fields_of r)) [] [] [] [] []) []
 
 -- to the corners a corner adds its number
 unfoldable pub new_corners : Tally → Rec → List ℕ
-new_corners t r = cond (takes t r 2) (added (corner_why t r) (r.a ∷ [])) []
+new_corners t r = cond (is_none t.refusal) (by_kind r.kind [] (added (corner_why t r) (r.a ∷ [])) [] [] [] []) []
 
 -- to the ends a face end adds the count of corners
 unfoldable pub new_ends : Tally → Rec → List ℕ
-new_ends t r = cond (takes t r 3) (added (face_end_why t r) (t.corners ∷ [])) []
+new_ends t r = cond (is_none t.refusal) (by_kind r.kind [] [] (added (face_end_why t r) (t.corners ∷ [])) [] [] []) []
 
 -- to the queries a query point adds its three fields
 unfoldable pub new_queries : Tally → Rec → List Float
-new_queries t r = cond (takes t r 5) (added (query_why t r) (fields_of r)) []
+new_queries t r = cond (is_none t.refusal) (by_kind r.kind [] [] [] [] (added (query_why t r) (fields_of r)) []) []
 
 -- ---- the lists that are lent beside the tally
 -- they hold the largest cell

@@ -1,15 +1,51 @@
 // Reading a record out of its 32 bytes.
 ghost use Rattle.std.specs.Prelude.{◌≡◌, ◌+◌, ◌≤◌, ◌<◌, length};
-ghost use Rattle.records.specs.Bytes.{word_of, clear_of, record_of};
+ghost use Rattle.records.specs.Bytes.{word_of, clear_of, record_of, kind_of, ends_cell};
 
-// A record: byte 0 is its kind, `clear` says that bytes 1 to 7 are zero, and then come three fields.
+// What a record tells of the cell.
+#[derive(Clone, Copy)]
+pub enum Kind {
+    Vertex,
+    Corner,
+    FaceEnd,
+    CellEnd,
+    Query,
+}
+
+impl Kind {
+    // The kind that byte 0 names.
+    #[tactic(auto, unfolding(crate::specs::Bytes::kind_of))]
+    fn of(byte: u8) -> Option<Kind>
+        ensures { result ≡ kind_of byte }
+    {
+        match byte {
+            1 => Some(Kind::Vertex),
+            2 => Some(Kind::Corner),
+            3 => Some(Kind::FaceEnd),
+            4 => Some(Kind::CellEnd),
+            5 => Some(Kind::Query),
+            _ => None,
+        }
+    }
+}
+
+// A record: byte 0 names its kind, `clear` says that bytes 1 to 7 are zero, and then come three fields.
 #[derive(Clone, Copy)]
 pub struct Rec {
-    pub kind: u8,
+    pub kind: Option<Kind>,
     pub clear: bool,
     pub a: u64,
     pub b: u64,
     pub c: u64,
+}
+
+impl Rec {
+    // Whether it ends the cell.
+    pub fn ends_cell(self) -> bool
+        ensures { result ≡ ends_cell self.kind }
+    {
+        matches!(self.kind, Some(Kind::CellEnd))
+    }
 }
 
 // The 8 bytes from `at` on, little-endian.
@@ -43,7 +79,7 @@ pub fn read_record(s: &[u8], at: usize) -> Rec
     ensures { result ≡ record_of s.now at }
 {
     Rec {
-        kind: s[at],
+        kind: Kind::of(s[at]),
         clear: clear(s, at),
         a: word(s, at + 8),
         b: word(s, at + 16),

@@ -8,7 +8,7 @@ ghost use Rattle.records.specs.Tally.{added};
 ghost use Rattle.records.specs.Tally.{Sized, Fits};
 ghost use Rattle.records.specs.Steps.{Tallied};
 
-use crate::bytes::Rec;
+use crate::bytes::{Kind, Rec};
 use places::refusal::Refusal;
 
 // What is known of the cell so far: its number, how much of it came, whether a face has corners and
@@ -197,12 +197,12 @@ impl Tally {
             return self;
         }
         match r.kind {
-            1 => self.vertex(r, coords),
-            2 => self.corner(r, corners),
-            3 => self.face_end(r, ends),
-            4 => self.cell_end(r),
-            5 => self.query(r, queries),
-            _ => self.refused(Refusal::Record),
+            Some(Kind::Vertex) => self.vertex(r, coords),
+            Some(Kind::Corner) => self.corner(r, corners),
+            Some(Kind::FaceEnd) => self.face_end(r, ends),
+            Some(Kind::CellEnd) => self.cell_end(r),
+            Some(Kind::Query) => self.query(r, queries),
+            None => self.refused(Refusal::Record),
         }
     }
 }

@@ -1,15 +1,13 @@
 -- A record taken with the lent lists, and a cell's line, as the functions of `block` and `line` want them: what the lists hold of the cell
 -- grows by what the record adds, whatever lies behind it.
 use mathlib.Core.Path.{◌≡◌, refl, sym, ap, subst, ◌∙◌}
-use mathlib.Core.Bool.{false}
+use mathlib.Core.Bool.{true, false}
 use mathlib.Core.List.{List, ◌++◌}
 use Prim.Native.Nat.{ℕ, ◌+◌, ◌*◌, ◌≤◌}
 use native.Mathlib.Omega.{arith}
 use lib.ListN.{length, take, drop, length-append}
 use lib.Seq.{sets, sets-eq, take_at, length-take-le}
-use lib.Dec.{eqb}
 use lib.Ieee.{Float}
-use borrow.Author.Tests.{eq-eqb}
 use Rattle.std.specs.Prelude.{None, Some}
 use Rattle.places.specs.declared.refusal.Refusal.{Refusal}
 use Rattle.places.specs.Refusals.{number_of}
@@ -18,7 +16,7 @@ use Rattle.geometry.specs.Answers.{Answer}
 use Rattle.geometry.specs.Survey.{survey_answer}
 use Rattle.records.specs.declared.bytes.Rec.{Rec}
 use Rattle.records.specs.declared.tally.Tally.{Tally}
-use Rattle.records.specs.Bytes.{record_of}
+use Rattle.records.specs.Bytes.{record_of, ends_cell}
 use Rattle.records.specs.Tally.{Sized, Fits, new_of, new_coords, new_corners, new_ends, new_queries}
 use Rattle.records.specs.Steps.{Tallied}
 use Rattle.records.proofs.Growth.{Follows, tally_follows}
@@ -78,20 +76,21 @@ module _ {t : Tally} {r : Rec} {a : List Float} {b c : List ℕ} {d : List Float
   stored = rw (x.coords, x.corners, x.ends, x.queries)
 
   -- at a cell end nothing is held, whatever the lists still have
-  pub taken_end : (w : Tally) → r.kind ≡ 4 → w ≡ new_of (t.number + 1) → held_of w a' b' c' d' ≡ record_taken (held_of t a b c d) r
+  pub taken_end : (w : Tally) → ends_cell r.kind ≡ true → w ≡ new_of (t.number + 1)
+      → held_of w a' b' c' d' ≡ record_taken (held_of t a b c d) r
   unfolding record_taken
-  taken_end w k e = rw (eq-eqb r.kind 4 k, e)
+  taken_end w k e = rw (k, e)
 
-  pub taken_on : eqb r.kind 4 ≡ false → held_of u a' b' c' d' ≡ record_taken (held_of t a b c d) r
+  pub taken_on : ends_cell r.kind ≡ false → held_of u a' b' c' d' ≡ record_taken (held_of t a b c d) r
   unfolding record_taken
   taken_on k = rw k fed
 
-  pub says_end : {o : List ℕ} {at : ℕ} {o' : List ℕ} {m : ℕ} → r.kind ≡ 4 → Put o at (line_of (held_of u a' b' c' d')) o' m
+  pub says_end : {o : List ℕ} {at : ℕ} {o' : List ℕ} {m : ℕ} → ends_cell r.kind ≡ true → Put o at (line_of (held_of u a' b' c' d')) o' m
       → Put o at (says_of (held_of t a b c d) r) o' m
   unfolding says_of
-  says_end k p = rw (eq-eqb r.kind 4 k) (rw fed at p)
+  says_end k p = rw k (rw fed at p)
 
-  pub says_on : (o : List ℕ) (at : ℕ) → eqb r.kind 4 ≡ false → Put o at (says_of (held_of t a b c d) r) o at
+  pub says_on : (o : List ℕ) (at : ℕ) → ends_cell r.kind ≡ false → Put o at (says_of (held_of t a b c d) r) o at
   unfolding says_of
   says_on o at k = rw k (record { holds = refl; ends = omega arith })
 

@@ -8,7 +8,7 @@ use Rattle.geometry.specs.Answers.{Answer}
 use Rattle.geometry.specs.Survey.{survey_answer}
 use Rattle.records.specs.declared.bytes.Rec.{Rec}
 use Rattle.records.specs.declared.tally.Tally.{Tally}
-use Rattle.records.specs.Bytes.{record_of}
+use Rattle.records.specs.Bytes.{record_of, ends_cell}
 use Rattle.records.specs.Tally.{new_of, tally_of, new_coords, new_corners, new_ends, new_queries}
 use Rattle.lines.specs.Lines.{cell_line, refused_line, tail_line}
 
@@ -51,13 +51,13 @@ line_of h =
     survey_line h.tally.number h.tally.verts h.tally.faces
     (decided h.tally.refusal (survey_answer h.coords h.corners h.ends h.queries))
 
--- a record is taken: any record of kind 4 ends the cell, and the next one starts anew
+-- a record is taken: any record of a cell end's kind ends the cell, and the next one starts anew
 unfoldable pub record_taken : Held → Rec → Held
-record_taken h r = cond (eqb r.kind 4) (fresh_of (h.tally.number + 1)) (grown_of h r)
+record_taken h r = cond (ends_cell r.kind) (fresh_of (h.tally.number + 1)) (grown_of h r)
 
 -- and what it prints
 unfoldable pub says_of : Held → Rec → List ℕ
-says_of h r = cond (eqb r.kind 4) (line_of (grown_of h r)) []
+says_of h r = cond (ends_cell r.kind) (line_of (grown_of h r)) []
 
 -- the cell after these records
 unfoldable pub after : Held → List Rec → Held

@@ -15,7 +15,7 @@ pub struct Taken {
     pub made: usize,
 }
 
-// One record is taken. Any record of kind 4 ends the cell, good or bad: its line, and a new tally.
+// One record is taken. Any record of the kind of a cell end ends the cell, good or bad: its line, and a new tally.
 pub fn take_record(
     t: Tally,
     r: Rec,
@@ -37,7 +37,7 @@ pub fn take_record(
     ensures fits_2 { Fits result.tally × (result.tally.number ≤ t.number + 1) × (result.made ≤ at + 256) }
 {
     let u = t.take(r, coords, corners, ends, queries);
-    if r.kind == 4 {
+    if r.ends_cell() {
         let made = put_line(u, coords, corners, ends, queries, out, at);
         return Taken {
             tally: Tally::new(t.number + 1),

@@ -1,136 +1,98 @@
 // Clipping and overlaps, which are lent two work lists. The second part of what they are given follows the first in the
 // line's lists: planes or another outline behind the coordinates, a second cell behind each list of the first.
-use crate::{answered, others};
+use crate::lists::{Lent, Question, others};
 use question_lists::lent;
 use question_lists::words::{argument, capped, low, word};
 
-// A face by planes; the arguments are how many numbers the vertices have, the face and the tolerance.
-fn face(
-    q: &[u64],
-    coords: &[f64],
-    corners: &[u32],
-    ends: &[u32],
-    first: &mut [f64],
-    second: &mut [f64],
-    shown: &mut [usize],
-) -> u8 {
-    let n = capped(q, 1, coords.len());
-    let number = low(word(q, 2));
-    let eps = argument(q, 3);
-    let planes = &coords[n..];
-    abi::clips::wegrusamt_clip_face(
-        &coords[0..n],
-        corners,
-        ends,
-        number,
-        planes,
-        eps,
-        first,
-        second,
-        shown,
-    )
+// The two work lists.
+#[derive(Drop)]
+struct Work<'a> {
+    first: &'a mut [f64],
+    second: &'a mut [f64],
 }
 
-// The overlap; the arguments are how many numbers, corners and ends the first cell has.
-fn overlap(
-    q: &[u64],
-    coords: &[f64],
-    corners: &[u32],
-    ends: &[u32],
-    first: &mut [f64],
-    second: &mut [f64],
-    out: &mut [f64],
-    arealess: &mut [usize],
-) -> u8 {
-    let nc = capped(q, 1, coords.len());
-    let nk = capped(q, 2, corners.len());
-    let ne = capped(q, 3, ends.len());
-    abi::clips::wegrusamt_convex_intersection_volume(
-        &coords[0..nc],
-        &corners[0..nk],
-        &ends[0..ne],
-        &coords[nc..],
-        &corners[nk..],
-        &ends[ne..],
-        first,
-        second,
-        out,
-        arealess,
-    )
-}
-
-// The code; of an outline by another, and of the area left, the first argument is how many numbers the subject has.
-fn ask(
-    q: &[u64],
-    coords: &[f64],
-    corners: &[u32],
-    ends: &[u32],
-    values: &mut [f64],
-    counts: &mut [usize],
-    first: &mut [f64],
-    second: &mut [f64],
-) -> u8 {
-    let n = capped(q, 1, coords.len());
-    let subject = &coords[0..n];
-    let clip = &coords[n..];
-    match word(q, 0) {
-        100 => face(q, coords, corners, ends, first, second, counts),
-        101 => abi::clips::wegrusamt_clip_convex(subject, clip, first, second, counts),
-        102 => abi::clips::wegrusamt_convex_intersection_area(subject, clip, first, second, values),
-        _ => overlap(q, coords, corners, ends, first, second, values, counts),
+impl Work<'_> {
+    // Whether every number of both is as stored, and nothing is stored behind them.
+    fn agree(&self, ws: &[u64]) -> bool {
+        let rest = lent::behind(ws);
+        lent::behind(rest).is_empty()
+            && lent::same_numbers(ws, self.first, 0)
+            && lent::same_numbers(rest, self.second, 0)
     }
 }
 
-// Whether the answer, and every number of both work lists, are as stored.
-fn in_lists(
-    q: &[u64],
-    coords: &[f64],
-    corners: &[u32],
-    ends: &[u32],
-    values: &mut [f64],
-    counts: &mut [usize],
-    first: &mut [f64],
-    second: &mut [f64],
-) -> bool {
-    let code = ask(q, coords, corners, ends, values, counts, first, second);
-    if !answered(q, u64::from(code), values, counts) {
-        return false;
+impl Question<'_> {
+    // A face by planes; the arguments are how many numbers the vertices have, the face and the tolerance.
+    fn clipped_face(self, shown: &mut [usize], work: &mut Work) -> u8 {
+        let n = capped(self.q, 1, self.coords.len());
+        let (coords, planes) = self.coords.split_at(n);
+        abi::clips::wegrusamt_clip_face(
+            coords,
+            self.corners,
+            self.ends,
+            low(word(self.q, 2)),
+            planes,
+            argument(self.q, 3),
+            work.first,
+            work.second,
+            shown,
+        )
     }
-    same_work(others(q), first, second)
-}
 
-fn same_work(ws: &[u64], first: &[f64], second: &[f64]) -> bool {
-    let rest = lent::behind(ws);
-    if lent::behind(rest).len() != 0 {
-        return false;
+    // The overlap; the arguments are how many numbers, corners and ends the first cell has.
+    fn overlap(self, lent: &mut Lent, work: &mut Work) -> u8 {
+        let (coords, coords2) = self.coords.split_at(capped(self.q, 1, self.coords.len()));
+        let (corners, corners2) = self.corners.split_at(capped(self.q, 2, self.corners.len()));
+        let (ends, ends2) = self.ends.split_at(capped(self.q, 3, self.ends.len()));
+        abi::clips::wegrusamt_convex_intersection_volume(
+            coords,
+            corners,
+            ends,
+            coords2,
+            corners2,
+            ends2,
+            work.first,
+            work.second,
+            lent.values,
+            lent.counts,
+        )
     }
-    if !lent::same_numbers(ws, first, 0) {
-        return false;
-    }
-    lent::same_numbers(rest, second, 0)
-}
 
-// The same, in lists of as many places as there are stored.
-pub fn agrees(
-    q: &[u64],
-    coords: &[f64],
-    corners: &[u32],
-    ends: &[u32],
-    values: &mut [f64],
-    counts: &mut [usize],
-) -> bool {
-    let mut first = lent::work_room();
-    let mut second = lent::work_room();
-    let n = capped(others(q), 0, 3080);
-    let m = capped(lent::behind(others(q)), 0, 3080);
-    in_lists(
-        q,
-        coords,
-        corners,
-        ends,
-        values,
-        counts,
-        &mut first[0..n],
-        &mut second[0..m],
-    )
+    // The code; of an outline by another, and of the area left, the first argument is how many numbers the subject has.
+    fn clip(self, lent: &mut Lent, work: &mut Work) -> u8 {
+        let (subject, clip) = self.coords.split_at(capped(self.q, 1, self.coords.len()));
+        match word(self.q, 0) {
+            100 => self.clipped_face(lent.counts, work),
+            101 => abi::clips::wegrusamt_clip_convex(
+                subject,
+                clip,
+                work.first,
+                work.second,
+                lent.counts,
+            ),
+            102 => abi::clips::wegrusamt_convex_intersection_area(
+                subject,
+                clip,
+                work.first,
+                work.second,
+                lent.values,
+            ),
+            _ => self.overlap(lent, work),
+        }
+    }
+
+    // Whether the answer, and every number of both work lists, are as stored, in lists of as many places as there are stored.
+    pub fn clips(self, lent: &mut Lent) -> bool {
+        let stored = others(self.q);
+        let mut first = lent::work_room();
+        let mut second = lent::work_room();
+        let n = capped(stored, 0, 3080);
+        let m = capped(lent::behind(stored), 0, 3080);
+        let mut work = Work {
+            first: &mut first[0..n],
+            second: &mut second[0..m],
+        };
+        let code = self.clip(lent, &mut work);
+        lent.agree(self.q, u64::from(code)) && work.agree(stored)
+    }
 }

@@ -8,76 +8,46 @@
 mod cells;
 mod clips;
 mod leaves;
+mod lists;
 mod points;
 mod turned;
 
+use lists::{Lent, Question, counts_on, lists};
 use question_lists::lent;
-use question_lists::words::{capped, part, word};
-
-// The stored lists of a question; those behind the numbers; those behind the counts.
-fn lists(q: &[u64]) -> &[u64] {
-    part(q, 6, 8192)
-}
-
-fn counts_on(q: &[u64]) -> &[u64] {
-    lent::behind(lists(q))
-}
-
-fn others(q: &[u64]) -> &[u64] {
-    lent::behind(counts_on(q))
-}
+use question_lists::words::{capped, word};
 
 // A code that is not the stored one, for an entry that is not known.
 fn unknown(q: &[u64]) -> u8 {
-    if word(q, 4) == 0 { 1 } else { 0 }
+    u8::from(word(q, 4) == 0)
 }
 
-// Whether the code, the numbers and the counts are as stored.
-fn answered(q: &[u64], code: u64, values: &[f64], counts: &[usize]) -> bool {
-    if word(q, 4) != code {
-        return false;
+impl Question<'_> {
+    // The code of an entry that is lent no other list.
+    fn ask(self, lent: &mut Lent) -> u64 {
+        let Question { q, coords, .. } = self;
+        match word(q, 0) / 10 {
+            1 => u64::from(self.measured(lent.values)),
+            2 => u64::from(self.counted(lent.counts)),
+            3 => u64::from(self.surveyed(lent)),
+            4 => u64::from(points::measured(q, coords, lent.values)),
+            5 => u64::from(points::shape(q, coords, lent)),
+            6 => leaves::returned(q),
+            7 => leaves::on_numbers(q, coords, lent.values),
+            _ => u64::from(unknown(q)),
+        }
     }
-    if !lent::same_numbers(lists(q), values, word(q, 5)) {
-        return false;
-    }
-    lent::same_counts(counts_on(q), counts)
-}
 
-// The code of an entry that is lent no other list.
-fn ask(
-    q: &[u64],
-    coords: &[f64],
-    corners: &[u32],
-    ends: &[u32],
-    values: &mut [f64],
-    counts: &mut [usize],
-) -> u64 {
-    match word(q, 0) / 10 {
-        1 => u64::from(cells::measured(q, coords, corners, ends, values)),
-        2 => u64::from(cells::counted(q, coords, corners, ends, counts)),
-        3 => u64::from(cells::surveyed(q, coords, corners, ends, counts, values)),
-        4 => u64::from(points::measured(q, coords, values)),
-        5 => u64::from(points::shape(q, coords, values, counts)),
-        6 => leaves::returned(q),
-        7 => leaves::on_numbers(q, coords, values),
-        _ => u64::from(unknown(q)),
+    // Whether an entry that reads the lists of the line alone is answered as stored.
+    fn agrees(self, lent: &mut Lent) -> bool {
+        match word(self.q, 0) {
+            90 | 91 => self.triangles(lent),
+            100..=103 => self.clips(lent),
+            _ => {
+                let code = self.ask(lent);
+                lent.agree_alone(self.q, code)
+            }
+        }
     }
-}
-
-// Whether it is answered as stored.
-fn plain(
-    q: &[u64],
-    coords: &[f64],
-    corners: &[u32],
-    ends: &[u32],
-    values: &mut [f64],
-    counts: &mut [usize],
-) -> bool {
-    let code = ask(q, coords, corners, ends, values, counts);
-    if others(q).len() != 0 {
-        return false;
-    }
-    answered(q, code, values, counts)
 }
 
 // The same of any entry.
@@ -86,17 +56,21 @@ fn in_lists(
     coords: &mut [f64],
     corners: &mut [u32],
     ends: &[u32],
-    values: &mut [f64],
-    counts: &mut [usize],
+    lent: &mut Lent,
 ) -> bool {
+    // By number, as the stored list has it: each number is read at one place, and an enum of names would say it once more.
     match word(q, 0) {
-        80 => turned::outward(q, coords, corners, ends, values, counts),
-        81 => turned::backward(q, coords, corners, ends, values, counts),
-        82 => turned::outline(q, coords, values, counts),
-        83 => turned::local(q, coords, values, counts),
-        90 | 91 => turned::triangles(q, coords, corners, ends, values, counts),
-        100 | 101 | 102 | 103 => clips::agrees(q, coords, corners, ends, values, counts),
-        _ => plain(q, coords, corners, ends, values, counts),
+        80 => turned::outward(q, coords, corners, ends, lent),
+        81 => turned::backward(q, coords, corners, ends, lent),
+        82 => turned::outline(q, coords, lent),
+        83 => turned::local(q, coords, lent),
+        _ => Question {
+            q,
+            coords,
+            corners,
+            ends,
+        }
+        .agrees(lent),
     }
 }
 
@@ -106,12 +80,9 @@ pub fn agrees(q: &[u64], coords: &mut [f64], corners: &mut [u32], ends: &[u32]) 
     let mut counts = lent::counts_room();
     let n = capped(lists(q), 0, 8);
     let m = capped(counts_on(q), 0, 264);
-    in_lists(
-        q,
-        coords,
-        corners,
-        ends,
-        &mut values[0..n],
-        &mut counts[0..m],
-    )
+    let mut lent = Lent {
+        values: &mut values[0..n],
+        counts: &mut counts[0..m],
+    };
+    in_lists(q, coords, corners, ends, &mut lent)
 }

@@ -1,4 +1,5 @@
 // The entries on a list of points, and the fixed shapes, whose corners are such a list.
+use crate::lists::Lent;
 use crate::unknown;
 use question_lists::words::{argument, word};
 
@@ -16,17 +17,17 @@ pub fn measured(q: &[u64], xs: &[f64], values: &mut [f64]) -> u8 {
 }
 
 // A fixed shape; the arguments are a point.
-pub fn shape(q: &[u64], xs: &[f64], values: &mut [f64], counts: &mut [usize]) -> u8 {
+pub fn shape(q: &[u64], xs: &[f64], lent: &mut Lent) -> u8 {
     let x = argument(q, 1);
     let y = argument(q, 2);
     let z = argument(q, 3);
     match word(q, 0) {
-        50 => abi::fixed::wegrusamt_tet_volume(xs, values),
-        51 => abi::fixed::wegrusamt_wedge_volume(xs, values),
-        52 => abi::fixed::wegrusamt_hex_volume(xs, values),
-        53 => abi::fixed::wegrusamt_tet_contains(xs, x, y, z, counts),
-        54 => abi::fixed::wegrusamt_wedge_contains(xs, x, y, z, counts),
-        55 => abi::fixed::wegrusamt_hex_contains(xs, x, y, z, counts),
+        50 => abi::fixed::wegrusamt_tet_volume(xs, lent.values),
+        51 => abi::fixed::wegrusamt_wedge_volume(xs, lent.values),
+        52 => abi::fixed::wegrusamt_hex_volume(xs, lent.values),
+        53 => abi::fixed::wegrusamt_tet_contains(xs, x, y, z, lent.counts),
+        54 => abi::fixed::wegrusamt_wedge_contains(xs, x, y, z, lent.counts),
+        55 => abi::fixed::wegrusamt_hex_contains(xs, x, y, z, lent.counts),
         _ => unknown(q),
     }
 }

@@ -1,3 +1,4 @@
 pub mod Faces
 pub mod Refusals
+pub mod SoundCell
 pub mod Steps

@@ -6,8 +6,18 @@ ghost use Rattle.std.proofs.Math.Seq.{slice};
 ghost use Rattle.cell.specs.Faces.{faces_of, rises};
 ghost use Rattle.cell.specs.Refusals.{out_of_range, points_refused, size_refused, number_refused, ends_refused, index_refused};
 ghost use Rattle.cell.specs.Refusals.{empty_refused, refusal_of};
+ghost use Rattle.cell.specs.Steps.{Sound};
 
 use places::refusal::Refusal;
+
+// A cell that is not refused: its lists, with what is known of them beside.
+#[derive(Clone, Copy)]
+pub struct SoundCell<'a> {
+    pub coords: &'a [f64],
+    pub corners: &'a [u32],
+    pub ends: &'a [u32],
+    pub ghost sound: { Sound coords.now corners.now ends.now },
+}
 
 // A face is shown as its own stretch of the lent corner list.
 pub fn face(corners: &[u32], start: usize, end: usize) -> &[u32]

@@ -6,12 +6,13 @@ ghost use Rattle.places.specs.Limits.{most_marked_corners};
 ghost use Rattle.flat.specs.Points.{vertices_of};
 ghost use Rattle.flat.specs.Steps.{Inside};
 ghost use Rattle.flat.specs.Flat.{points_of};
-ghost use Rattle.cell.specs.Faces.{faces_of};
-ghost use Rattle.cell.specs.Steps.{Sound};
+ghost use Rattle.cell.specs.SoundCell.{vertices, faces};
 ghost use Rattle.inside.specs.Ray.{meets_at, passes, pass_side, in_outline, along_of, distance_ahead, ray_crosses};
 ghost use Rattle.places.specs.Loops.{count_of};
 ghost use Rattle.inside.specs.Inside.{cross_face, cross_marked, contains_of, holds, phed_contains_of};
 ghost use Rattle.inside.specs.Steps.{MarkedInside};
+
+use cell::SoundCell;
 
 // Where the side from a to b meets the height of p.
 #[tactic(auto, unfolding(crate::specs::Ray::meets_at))]
@@ -118,16 +119,15 @@ fn cross_face(coords: &[f64], face: &[u32], p: [f64; 3], inside: bool) -> bool
 
 // Whether a cell contains p: an odd number of its faces is crossed.
 // Ruled out: a program that says yes at the first face that is crossed, and one that leaves out the last face.
-pub fn contains(coords: &[f64], corners: &[u32], ends: &[u32], p: [f64; 3]) -> bool
-    requires { Sound coords.now corners.now ends.now }
-    ensures { result ≡ contains_of (vertices_of coords.now) p (faces_of corners.now ends.now) }
+pub fn contains(cell: &SoundCell, p: [f64; 3]) -> bool
+    ensures { result ≡ contains_of (vertices cell.now) p (faces cell.now) }
 {
     let mut inside = false;
     let mut start = 0;
-    for &end in ends {
+    for &end in cell.ends {
         let end = end as usize;
-        let face = cell::face(corners, start, end);
-        inside = cross_face(coords, face, p, inside);
+        let face = cell::face(cell.corners, start, end);
+        inside = cross_face(cell.coords, face, p, inside);
         start = end;
     }
     inside
@@ -161,15 +161,14 @@ pub fn point_in_phed(coords: &[f64], cs: &[u32], p: [f64; 3]) -> bool
 }
 
 // How many of the query points the cell contains.
-pub fn count_contained(coords: &[f64], corners: &[u32], ends: &[u32], queries: &[f64]) -> usize
-    requires sound { Sound coords.now corners.now ends.now }
+pub fn count_contained(cell: &SoundCell, queries: &[f64]) -> usize
     requires queries_len_bound { length queries.now ≤ 770 }
-    ensures { result ≡ count_of (holds (vertices_of coords.now) (faces_of corners.now ends.now)) (vertices_of queries.now) }
+    ensures { result ≡ count_of (holds (vertices cell.now) (faces cell.now)) (vertices_of queries.now) }
 {
     let mut found = 0;
     for i in 0..queries.len() / 3 {
         let p = flat::space::vertex(queries, i);
-        found += usize::from(contains(coords, corners, ends, p));
+        found += usize::from(contains(cell, p));
     }
     found
 }

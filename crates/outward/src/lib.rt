@@ -7,10 +7,13 @@ ghost use Rattle.flat.specs.Points.{vertices_of, vertex_of};
 ghost use Rattle.flat.specs.Steps.{Inside};
 ghost use Rattle.cell.specs.Faces.{faces_of};
 ghost use Rattle.cell.specs.Refusals.{empty_refused};
+ghost use Rattle.cell.specs.SoundCell.{vertices, faces};
 ghost use Rattle.cell.specs.Steps.{Sound};
 ghost use Rattle.outward.specs.Convexity.{tolerance_of, has_corner, other_vertices, plane_parts, face_parts, compute_convexity_of};
 ghost use Rattle.outward.specs.Outward.{away_of, outward_of, outward_corners};
 ghost use Rattle.outward.specs.Steps.{see_of};
+
+use cell::SoundCell;
 
 // What was seen of the vertices against a plane: one above it, one below it.
 #[derive(Clone, Copy, PartialEq)]
@@ -101,15 +104,14 @@ fn face_parts(coords: &[f64], face: &[u32]) -> bool
 }
 
 // Whether a face of the cell does.
-fn any_parts(coords: &[f64], corners: &[u32], ends: &[u32]) -> bool
-    requires { Sound coords.now corners.now ends.now }
-    ensures { result ≡ any_of (face_parts (vertices_of coords.now)) (faces_of corners.now ends.now) }
+fn any_parts(cell: &SoundCell) -> bool
+    ensures { result ≡ any_of (face_parts (vertices cell.now)) (faces cell.now) }
 {
     let mut start = 0;
-    for &end in ends {
+    for &end in cell.ends {
         let end = end as usize;
-        let face = cell::face(corners, start, end);
-        if face_parts(coords, face) {
+        let face = cell::face(cell.corners, start, end);
+        if face_parts(cell.coords, face) {
             return true;
         }
         start = end;
@@ -120,14 +122,13 @@ fn any_parts(coords: &[f64], corners: &[u32], ends: &[u32]) -> bool
 // Whether each face has all other vertices on one side; a cell of under 4 vertices is convex.
 // Ruled out: a face's own corners counted, which a face that is not flat has on both sides;
 // a vertex right at the tolerance taken for one off the plane.
-pub fn compute_convexity(coords: &[f64], corners: &[u32], ends: &[u32]) -> bool
-    requires { Sound coords.now corners.now ends.now }
-    ensures { result ≡ compute_convexity_of (vertices_of coords.now) (faces_of corners.now ends.now) }
+pub fn compute_convexity(cell: &SoundCell) -> bool
+    ensures { result ≡ compute_convexity_of (vertices cell.now) (faces cell.now) }
 {
-    if coords.len() / 3 < 4 {
+    if cell.coords.len() / 3 < 4 {
         return true;
     }
-    !any_parts(coords, corners, ends)
+    !any_parts(cell)
 }
 
 // How far a face looks away from a reference point.

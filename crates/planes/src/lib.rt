@@ -4,13 +4,14 @@
 ghost use Rattle.std.specs.Prelude.{◌≡◌, [], ◌+◌, ◌*◌, ◌<◌, ◌≤◌, length, get_or, set, take, false};
 ghost use Rattle.flat.specs.Points.{vertices_of, corners_of};
 ghost use Rattle.flat.specs.Steps.{Inside};
-ghost use Rattle.cell.specs.Faces.{faces_of};
+ghost use Rattle.cell.specs.SoundCell.{vertices, faces};
 ghost use Rattle.cell.specs.Refusals.{empty_refused};
-ghost use Rattle.cell.specs.Steps.{Sound};
 ghost use Rattle.planes.specs.Planes.{dot_of, offset_of, unit_plane, all_zero, has_no_area, plane_of, planes_of, no_area_faces};
 ghost use Rattle.planes.specs.Planes.{no_area_count};
 ghost use Rattle.planes.specs.Planes.{distance_of, same_side, coplanar_opposite, in_fours};
 ghost use Rattle.planes.specs.Steps.{no_plane, plane_if};
+
+use cell::SoundCell;
 
 // A unit normal and an offset; inside is n · x <= d.
 #[derive(Clone, Copy)]
@@ -155,20 +156,19 @@ pub fn put_plane(out: &mut [f64], k: usize, plane: Plane)
 
 // The planes of a cell's faces that have area, laid down at the front of a list, and how many there are.
 // Ruled out: every face taken from the first corner on; a place kept free for a face of no area.
-pub fn planes(coords: &[f64], corners: &[u32], ends: &[u32], out: &mut [f64]) -> usize
-    requires sound { Sound coords.now corners.now ends.now }
-    requires ends_value { empty_refused corners.now ends.now ≡ false }
-    requires ends_in_bounds { 4 * length ends.now ≤ length out.old }
-    ensures value { result ≡ length (planes_of (vertices_of coords.now) (faces_of corners.now ends.now)) }
-    ensures out_value { take result (in_fours out.new) ≡ planes_of (vertices_of coords.now) (faces_of corners.now ends.now) }
+pub fn planes(cell: &SoundCell, out: &mut [f64]) -> usize
+    requires ends_value { empty_refused cell.now.corners.now cell.now.ends.now ≡ false }
+    requires ends_in_bounds { 4 * length cell.now.ends.now ≤ length out.old }
+    ensures value { result ≡ length (planes_of (vertices cell.now) (faces cell.now)) }
+    ensures out_value { take result (in_fours out.new) ≡ planes_of (vertices cell.now) (faces cell.now) }
 {
     let mut m = 0;
     let mut start = 0;
-    for &end in ends {
+    for &end in cell.ends {
         let end = end as usize;
-        let face = cell::face(corners, start, end);
+        let face = cell::face(cell.corners, start, end);
         start = end;
-        if let Some(plane) = plane_of_face(coords, face) {
+        if let Some(plane) = plane_of_face(cell.coords, face) {
             put_plane(out, m, plane);
             m += 1;
         }
@@ -178,32 +178,30 @@ pub fn planes(coords: &[f64], corners: &[u32], ends: &[u32], out: &mut [f64]) ->
 
 // For each face of a cell 1 where it has no area, else 0, one a place of a list that has just so many.
 // Ruled out: 1 for a face with area and 0 for the others; every face taken from the first corner on.
-pub fn no_area_faces(coords: &[f64], corners: &[u32], ends: &[u32], out: &mut [usize])
-    requires sound { Sound coords.now corners.now ends.now }
-    requires out_len { length out.old ≡ length ends.now }
-    ensures { out.new ≡ no_area_faces (vertices_of coords.now) (faces_of corners.now ends.now) }
+pub fn no_area_faces(cell: &SoundCell, out: &mut [usize])
+    requires out_len { length out.old ≡ length cell.now.ends.now }
+    ensures { out.new ≡ no_area_faces (vertices cell.now) (faces cell.now) }
 {
     let mut start = 0;
-    for (k, &end) in ends.iter().enumerate() {
+    for (k, &end) in cell.ends.iter().enumerate() {
         let end = end as usize;
-        let face = cell::face(corners, start, end);
-        out[k] = usize::from(has_no_area(coords, face));
+        let face = cell::face(cell.corners, start, end);
+        out[k] = usize::from(has_no_area(cell.coords, face));
         start = end;
     }
 }
 
 // How many faces of a cell have no area.
 // Ruled out: the faces with area counted; the first such face alone.
-pub fn no_area_count(coords: &[f64], corners: &[u32], ends: &[u32]) -> usize
-    requires { Sound coords.now corners.now ends.now }
-    ensures { result ≡ no_area_count (vertices_of coords.now) (faces_of corners.now ends.now) }
+pub fn no_area_count(cell: &SoundCell) -> usize
+    ensures { result ≡ no_area_count (vertices cell.now) (faces cell.now) }
 {
     let mut count = 0;
     let mut start = 0;
-    for &end in ends {
+    for &end in cell.ends {
         let end = end as usize;
-        let face = cell::face(corners, start, end);
-        count += usize::from(has_no_area(coords, face));
+        let face = cell::face(cell.corners, start, end);
+        count += usize::from(has_no_area(cell.coords, face));
         start = end;
     }
     count

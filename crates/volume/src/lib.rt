@@ -8,11 +8,12 @@ ghost use Rattle.places.specs.Loops.{fold_list, one_if};
 ghost use Rattle.flat.specs.Points.{vertices_of, centroid_of};
 ghost use Rattle.flat.specs.Steps.{Inside};
 ghost use Rattle.cut.specs.Cut.{cut_of};
-ghost use Rattle.cell.specs.Faces.{faces_of};
-ghost use Rattle.cell.specs.Steps.{Sound};
+ghost use Rattle.cell.specs.SoundCell.{vertices, faces};
 ghost use Rattle.volume.specs.Volume.{triple_of, corner_from, triple_about, add_triple, volume_of, add_moment, moments_of, balance_of};
 ghost use Rattle.volume.specs.Volume.{geometric_centroid_of};
 ghost use Rattle.volume.specs.Steps.{measured_of, add_face, add_face_moments};
+
+use cell::SoundCell;
 
 // What one pass over the faces tells: six times the signed volume, how many triangles there
 // are, and how many faces of three or more corners gave too few.
@@ -109,21 +110,26 @@ fn add_face(
 }
 
 // One pass over the faces; the triangles of each are laid down in out.
-fn measure_in(coords: &[f64], corners: &[u32], ends: &[u32], out: &mut [[u32; 3]]) -> Measured
-    requires sound { Sound coords.now corners.now ends.now }
-    requires corners_in_bounds { length corners.now ≤ length out.old }
-    ensures { result ≡ measured_of (vertices_of coords.now) (faces_of corners.now ends.now) }
+fn measure_in(cell: &SoundCell, out: &mut [[u32; 3]]) -> Measured
+    requires corners_in_bounds { length cell.now.corners.now ≤ length out.old }
+    ensures { result ≡ measured_of (vertices cell.now) (faces cell.now) }
 {
-    let refp = flat::space::vertex_centroid(coords);
+    let refp = flat::space::vertex_centroid(cell.coords);
     let mut m = Measured {
         v6: 0.0,
         triangles: 0,
         short: 0,
     };
     let mut start = 0;
-    for &end in ends {
+    for &end in cell.ends {
         let end = end as usize;
-        m = add_face(coords, cell::face(corners, start, end), refp, m, out);
+        m = add_face(
+            cell.coords,
+            cell::face(cell.corners, start, end),
+            refp,
+            m,
+            out,
+        );
         start = end;
     }
     m
@@ -131,34 +137,31 @@ fn measure_in(coords: &[f64], corners: &[u32], ends: &[u32], out: &mut [[u32; 3]
 
 // The same with a list of its own for the triangles of a face, of N places. Each size is a function: a small cell does not clear the list
 // of a large one.
-fn measure_sized<const N: usize>(coords: &[f64], corners: &[u32], ends: &[u32]) -> Measured
-    requires sound { Sound coords.now corners.now ends.now }
-    requires n_bound { (length corners.now ≤ N) × (N ≤ most_corners) }
-    ensures { result ≡ measured_of (vertices_of coords.now) (faces_of corners.now ends.now) }
+fn measure_sized<const N: usize>(cell: &SoundCell) -> Measured
+    requires n_bound { (length cell.now.corners.now ≤ N) × (N ≤ most_corners) }
+    ensures { result ≡ measured_of (vertices cell.now) (faces cell.now) }
 {
     let mut out = [[0u32; 3]; N];
-    measure_in(coords, corners, ends, &mut out)
+    measure_in(cell, &mut out)
 }
 
 // The list for one face's triangles is cleared once a cell, and is small for usual cells.
-pub fn measure(coords: &[f64], corners: &[u32], ends: &[u32]) -> Measured
-    requires { Sound coords.now corners.now ends.now }
-    ensures { result ≡ measured_of (vertices_of coords.now) (faces_of corners.now ends.now) }
+pub fn measure(cell: &SoundCell) -> Measured
+    ensures { result ≡ measured_of (vertices cell.now) (faces cell.now) }
 {
-    if corners.len() <= 256 {
-        measure_sized::<256>(coords, corners, ends)
+    if cell.corners.len() <= 256 {
+        measure_sized::<256>(cell)
     } else {
-        measure_sized::<{ places::limits::MOST_CORNERS }>(coords, corners, ends)
+        measure_sized::<{ places::limits::MOST_CORNERS }>(cell)
     }
 }
 
 // |v6| / 6.
 #[tactic(auto, unfolding(crate::specs::Volume::volume_of, crate::specs::Steps::measured_of))]
-pub fn volume(coords: &[f64], corners: &[u32], ends: &[u32]) -> f64
-    requires { Sound coords.now corners.now ends.now }
-    ensures { result ≡ volume_of (vertices_of coords.now) (faces_of corners.now ends.now) }
+pub fn volume(cell: &SoundCell) -> f64
+    ensures { result ≡ volume_of (vertices cell.now) (faces cell.now) }
 {
-    let m = measure(coords, corners, ends);
+    let m = measure(cell);
     floats::magnitude(m.v6) / 6.0
 }
 
@@ -213,57 +216,49 @@ fn add_face_moments(
 }
 
 // The sums over all faces, about the vertex centroid; the triangles of each face are laid down in out.
-fn moments_in(
-    coords: &[f64],
-    corners: &[u32],
-    ends: &[u32],
-    refp: [f64; 3],
-    out: &mut [[u32; 3]],
-) -> Moments
-    requires sound { Sound coords.now corners.now ends.now }
-    requires corners_in_bounds { length corners.now ≤ length out.old }
-    requires refp_value { refp ≡ centroid_of 3 (vertices_of coords.now) }
-    ensures { result ≡ moments_of (vertices_of coords.now) (faces_of corners.now ends.now) }
+fn moments_in(cell: &SoundCell, refp: [f64; 3], out: &mut [[u32; 3]]) -> Moments
+    requires corners_in_bounds { length cell.now.corners.now ≤ length out.old }
+    requires refp_value { refp ≡ centroid_of 3 (vertices cell.now) }
+    ensures { result ≡ moments_of (vertices cell.now) (faces cell.now) }
 {
     let mut m = Moments {
         v6: 0.0,
         sum: [0.0, 0.0, 0.0],
     };
     let mut start = 0;
-    for &end in ends {
+    for &end in cell.ends {
         let end = end as usize;
-        m = add_face_moments(coords, cell::face(corners, start, end), refp, m, out);
+        m = add_face_moments(
+            cell.coords,
+            cell::face(cell.corners, start, end),
+            refp,
+            m,
+            out,
+        );
         start = end;
     }
     m
 }
 
 // The same with a list of its own for the triangles of a face, of N places.
-fn moments_sized<const N: usize>(
-    coords: &[f64],
-    corners: &[u32],
-    ends: &[u32],
-    refp: [f64; 3],
-) -> Moments
-    requires sound { Sound coords.now corners.now ends.now }
-    requires n_bound { (length corners.now ≤ N) × (N ≤ most_corners) }
-    requires refp_value { refp ≡ centroid_of 3 (vertices_of coords.now) }
-    ensures { result ≡ moments_of (vertices_of coords.now) (faces_of corners.now ends.now) }
+fn moments_sized<const N: usize>(cell: &SoundCell, refp: [f64; 3]) -> Moments
+    requires n_bound { (length cell.now.corners.now ≤ N) × (N ≤ most_corners) }
+    requires refp_value { refp ≡ centroid_of 3 (vertices cell.now) }
+    ensures { result ≡ moments_of (vertices cell.now) (faces cell.now) }
 {
     let mut out = [[0u32; 3]; N];
-    moments_in(coords, corners, ends, refp, &mut out)
+    moments_in(cell, refp, &mut out)
 }
 
 // The list is small for usual cells.
-fn sum_moments(coords: &[f64], corners: &[u32], ends: &[u32], refp: [f64; 3]) -> Moments
-    requires sound { Sound coords.now corners.now ends.now }
-    requires refp_value { refp ≡ centroid_of 3 (vertices_of coords.now) }
-    ensures { result ≡ moments_of (vertices_of coords.now) (faces_of corners.now ends.now) }
+fn sum_moments(cell: &SoundCell, refp: [f64; 3]) -> Moments
+    requires refp_value { refp ≡ centroid_of 3 (vertices cell.now) }
+    ensures { result ≡ moments_of (vertices cell.now) (faces cell.now) }
 {
-    if corners.len() <= 256 {
-        moments_sized::<256>(coords, corners, ends, refp)
+    if cell.corners.len() <= 256 {
+        moments_sized::<256>(cell, refp)
     } else {
-        moments_sized::<{ places::limits::MOST_CORNERS }>(coords, corners, ends, refp)
+        moments_sized::<{ places::limits::MOST_CORNERS }>(cell, refp)
     }
 }
 
@@ -283,11 +278,10 @@ fn balance(coords: &[f64], refp: [f64; 3], m: Moments) -> [f64; 3]
 
 // The point at which the cell balances, as the sums about the vertex centroid give it.
 #[tactic(auto, using(places::proofs::Stored::length_threes), unfolding(crate::specs::Volume::geometric_centroid_of))]
-pub fn geometric_centroid(coords: &[f64], corners: &[u32], ends: &[u32]) -> [f64; 3]
-    requires { Sound coords.now corners.now ends.now }
-    ensures { result ≡ geometric_centroid_of (vertices_of coords.now) (faces_of corners.now ends.now) }
+pub fn geometric_centroid(cell: &SoundCell) -> [f64; 3]
+    ensures { result ≡ geometric_centroid_of (vertices cell.now) (faces cell.now) }
 {
-    let refp = flat::space::vertex_centroid(coords);
-    let m = sum_moments(coords, corners, ends, refp);
-    balance(coords, refp, m)
+    let refp = flat::space::vertex_centroid(cell.coords);
+    let m = sum_moments(cell, refp);
+    balance(cell.coords, refp, m)
 }

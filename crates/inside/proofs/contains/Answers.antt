@@ -9,7 +9,7 @@ use Rattle.inside.proofs.contains.Goals as goal
 pub loop-end-init : goal.loop-end-init
 unfolding contains_of
 loop-end-init c =
-    face_start c.requires.ordered refl
+    face_start c.args.cell.now.sound.ordered refl
 
 pub face-face-requires : goal.face-face-requires
 face-face-requires c =

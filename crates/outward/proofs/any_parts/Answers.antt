@@ -7,7 +7,7 @@ use Rattle.outward.proofs.any_parts.Goals as goal
 
 pub loop-end-init : goal.loop-end-init
 loop-end-init c =
-    faces_start c.requires.ordered refl
+    faces_start c.args.cell.now.sound.ordered refl
 
 pub face-face-requires : goal.face-face-requires
 face-face-requires c =

@@ -7,7 +7,7 @@ use Rattle.planes.proofs.no_area_count.Goals as goal
 
 pub loop-end-init : goal.loop-end-init
 unfolding no_area_count
-loop-end-init c = count_start c.requires.ordered
+loop-end-init c = count_start c.args.cell.now.sound.ordered
 
 pub face-face-requires : goal.face-face-requires
 face-face-requires c =

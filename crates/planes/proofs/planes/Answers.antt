@@ -13,7 +13,7 @@ use Rattle.planes.proofs.planes.Goals.{in-Some, in_default}
 pub loop-end-init : goal.loop-end-init
 loop-end-init c =
     let fours = length_fours c.args.out.now in
-    (refl, gather_start c.requires.sound.ordered c.requires.ends_value (omega (arith, fours, c.requires.ends_in_bounds)))
+    (refl, gather_start c.args.cell.now.sound.ordered c.requires.ends_value (omega (arith, fours, c.requires.ends_in_bounds)))
 
 pub face-face-requires : goal.face-face-requires
 face-face-requires c =
@@ -24,7 +24,7 @@ pub plane_of_face-requires : goal.plane_of_face-requires
 plane_of_face-requires c =
     rw c.face-face.ensures
     record {
-      inside = each_slice _ _ c.args.corners.now c.requires.sound.inside;
+      inside = each_slice _ _ c.args.cell.now.corners.now c.args.cell.now.sound.inside;
       face_nonzero = gather_corner c.loop-end.invariant.1 (omega arith) refl;
     }
 

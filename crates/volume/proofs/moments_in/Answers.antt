@@ -2,8 +2,7 @@
 -- triangles (`moments_all`).
 use mathlib.Core.Path.{refl}
 use native.Mathlib.Omega.{arith}
-use Rattle.flat.specs.Points.{vertices_of}
-use Rattle.cell.specs.Faces.{faces_of}
+use Rattle.cell.specs.SoundCell.{vertices, faces}
 use Rattle.cell.proofs.Faces.{face_start, face_step, face_next, face_end_lem}
 use Rattle.volume.proofs.Passes.{moments_all}
 use borrow.Author.Rules.{rules}
@@ -11,8 +10,8 @@ use Rattle.volume.proofs.moments_in.Goals as goal
 
 pub loop-end-init : goal.loop-end-init
 loop-end-init c =
-    let all = moments_all (vertices_of c.args.coords.now) (faces_of c.args.corners.now c.args.ends.now) in
-    (refl, face_start c.requires.sound.ordered (rw c.requires.refp_value all))
+    let all = moments_all (vertices c.args.cell.now) (faces c.args.cell.now) in
+    (refl, face_start c.args.cell.now.sound.ordered (rw c.requires.refp_value all))
 
 pub face-requires : goal.face-requires
 face-requires c =

@@ -9,6 +9,8 @@ ghost use Rattle.flat.specs.Steps.{Inside};
 ghost use Rattle.shapes.specs.Shapes.{tet_volume_of, tet_by, volume_by, wedge_volume_of, hex_volume_of, tet_contains_of, wedge_contains_of};
 ghost use Rattle.shapes.specs.Shapes.{hex_contains_of};
 
+use cell::SoundCell;
+
 // The tetrahedra that fill a wedge, and those that fill a hexahedron: four corner numbers each.
 const WEDGE6_TET: [[usize; 4]; 3] = [[0, 1, 2, 3], [1, 2, 3, 4], [2, 3, 4, 5]];
 
@@ -106,7 +108,12 @@ pub fn tet_contains(point: [f64; 3], p: [[f64; 3]; 4]) -> bool
     ensures { result ≡ tet_contains_of point p }
 {
     let coords = numbers(&p);
-    inside::contains(coords, &TET4_FACES, &TET4_ENDS, point)
+    let cell = SoundCell {
+        coords,
+        corners: &TET4_FACES,
+        ends: &TET4_ENDS,
+    };
+    inside::contains(&cell, point)
 }
 
 // Whether a wedge contains the point: of the two counts, that of its quadrilaterals and that of its triangles, exactly one is odd.
@@ -116,8 +123,18 @@ pub fn wedge_contains(point: [f64; 3], p: [[f64; 3]; 6]) -> bool
     ensures { result ≡ wedge_contains_of point p }
 {
     let coords = numbers(&p);
-    let quads = inside::contains(coords, &WEDGE6_QUAD_FACES, &WEDGE6_QUAD_ENDS, point);
-    let triangles = inside::contains(coords, &WEDGE6_TRI_FACES, &WEDGE6_TRI_ENDS, point);
+    let quad_cell = SoundCell {
+        coords,
+        corners: &WEDGE6_QUAD_FACES,
+        ends: &WEDGE6_QUAD_ENDS,
+    };
+    let tri_cell = SoundCell {
+        coords,
+        corners: &WEDGE6_TRI_FACES,
+        ends: &WEDGE6_TRI_ENDS,
+    };
+    let quads = inside::contains(&quad_cell, point);
+    let triangles = inside::contains(&tri_cell, point);
     quads != triangles
 }
 
@@ -127,5 +144,10 @@ pub fn hex_contains(point: [f64; 3], p: [[f64; 3]; 8]) -> bool
     ensures { result ≡ hex_contains_of point p }
 {
     let coords = numbers(&p);
-    inside::contains(coords, &HEX8_FACES, &HEX8_ENDS, point)
+    let cell = SoundCell {
+        coords,
+        corners: &HEX8_FACES,
+        ends: &HEX8_ENDS,
+    };
+    inside::contains(&cell, point)
 }

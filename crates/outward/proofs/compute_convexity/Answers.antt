@@ -5,10 +5,10 @@ use Rattle.places.proofs.Stored.{length_threes}
 use Rattle.outward.specs.Convexity.{compute_convexity_of}
 use Rattle.outward.proofs.compute_convexity.Goals as goal
 
-pub returns-then-coords-lt4 : goal.returns-then-coords-lt4
+pub returns-then-cell-lt4 : goal.returns-then-cell-lt4
 unfolding compute_convexity_of
-returns-then-coords-lt4 c = rw (length_threes, lt-ltb _ 4 c.if-coords-lt4.true)
+returns-then-cell-lt4 c = rw (length_threes, lt-ltb _ 4 c.if-cell-lt4.true)
 
 pub returns : goal.returns
 unfolding compute_convexity_of
-returns c = rw (length_threes, le-ltb _ 4 c.if-coords-lt4.false, ← c.any_parts.ensures)
+returns c = rw (length_threes, le-ltb _ 4 c.if-cell-lt4.false, ← c.any_parts.ensures)

@@ -7,9 +7,9 @@ use Rattle.shapes.specs.Shapes.{tet_contains_of}
 use Rattle.shapes.proofs.Tables.{tested, shape_sound}
 use Rattle.shapes.proofs.tet_contains.Goals as goal
 
-pub contains-requires : goal.contains-requires
+pub invariant_of-cell : goal.invariant_of-cell
 unfolding tested
-contains-requires c = shape_sound 12 _ _ _ (search rules) refl
+invariant_of-cell c = record { sound = shape_sound 12 _ _ _ (search rules) refl }
 
 pub returns : goal.returns
 unfolding tet_contains_of faces_of

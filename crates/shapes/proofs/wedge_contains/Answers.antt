@@ -8,13 +8,13 @@ use Rattle.shapes.proofs.Tables.{tested, shape_sound}
 use Rattle.shapes.proofs.Wedge.{differs}
 use Rattle.shapes.proofs.wedge_contains.Goals as goal
 
-pub contains-quads-requires : goal.contains-quads-requires
+pub invariant_of-quad_cell : goal.invariant_of-quad_cell
 unfolding tested
-contains-quads-requires c = shape_sound 18 _ _ _ (search rules) refl
+invariant_of-quad_cell c = record { sound = shape_sound 18 _ _ _ (search rules) refl }
 
-pub contains-triangles-requires : goal.contains-triangles-requires
+pub invariant_of-tri_cell : goal.invariant_of-tri_cell
 unfolding tested
-contains-triangles-requires c = shape_sound 18 _ _ _ (search rules) refl
+invariant_of-tri_cell c = record { sound = shape_sound 18 _ _ _ (search rules) refl }
 
 pub returns : goal.returns
 unfolding wedge_contains_of faces_of

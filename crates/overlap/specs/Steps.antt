@@ -5,8 +5,6 @@ use Rattle.floats.specs.Pick.{largest_of}
 use Rattle.flat.specs.Points.{Point, vertices_of}
 use Rattle.flat.specs.Steps.{Inside}
 use Rattle.clip_step.specs.Doubled.{square_of}
-use Rattle.cell.specs.Refusals.{empty_refused}
-use Rattle.cell.specs.Steps.{Sound}
 use Rattle.planes.specs.declared.Plane.{Plane}
 use Rattle.planes.specs.Planes.{PlaneOrNoArea, planes_of, no_area_count, in_fours}
 use Rattle.work_lists.specs.WorkLists.{Outcome, shorter_of}
@@ -39,12 +37,7 @@ abbrev pub patches_of : Bool → ℕ → Measures → List Point → List (List 
 patches_of true = second_patches
 patches_of false = first_patches
 
--- ---- what the overlap wants: of a cell, of a face that is to be clipped, and of its lists
--- a cell that is not refused 1 to 5
-pub record Solid (coords : List Float) (corners ends : List ℕ) : Type 0 where
-  pub sound : Sound coords corners ends
-  pub no_empty : empty_refused corners ends ≡ false
-
+-- ---- what the overlap wants: of a face that is to be clipped, and of its lists
 -- a face that is to be clipped, the stored planes of the other cell, and the two work lists
 pub record Ready (vs : List Point) (face : List ℕ) (planes first second : List Float) : Type 0 where
   pub inside : Inside vs face

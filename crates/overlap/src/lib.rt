@@ -1,6 +1,7 @@
 // The overlap of two cells: each cell's faces clipped by the planes of the other, and the contributions of what is left.
 #![tactic(auto)]
 
+use cell::SoundCell;
 use planes::Plane;
 use work_lists::{NoRoom, Outline};
 
@@ -11,8 +12,7 @@ ghost use Rattle.places.specs.Limits.{most_work_numbers};
 ghost use Rattle.places.specs.Loops.{any_of};
 ghost use Rattle.floats.specs.F64.{zero64};
 ghost use Rattle.flat.specs.Points.{vertices_of, corners_of};
-ghost use Rattle.cell.specs.Faces.{faces_of};
-ghost use Rattle.cell.specs.Steps.{Sound};
+ghost use Rattle.cell.specs.SoundCell.{vertices, faces, Solid};
 ghost use Rattle.flat.specs.Steps.{Inside};
 ghost use Rattle.planes.specs.Planes.{has_no_area, has_plane, plane_of, planes_of, no_area_count, in_fours};
 ghost use Rattle.planes.specs.Steps.{plane_if};
@@ -20,7 +20,7 @@ ghost use Rattle.work_lists.specs.WorkLists.{shorter_of};
 ghost use Rattle.work_lists.specs.Steps.{Ended};
 ghost use Rattle.overlap.specs.Overlap.{contribution_of, other_planes, first_patch, second_patch};
 ghost use Rattle.overlap.specs.Overlap.{added_to, magnitude_of_sum, overlap_of, counted, overlapped_of};
-ghost use Rattle.overlap.specs.Steps.{Solid, Ready, Next, Joint, Stocked, skip_of, face_patch, patches_of, room_of, own_part, other_part};
+ghost use Rattle.overlap.specs.Steps.{Ready, Next, Joint, Stocked, skip_of, face_patch, patches_of, room_of, own_part, other_part};
 ghost use Rattle.overlap.specs.Steps.{both_counted};
 
 // The clip's eps, the coplanar tolerance, and the point about which contributions are taken.
@@ -282,186 +282,149 @@ fn own_plane(coords: &[f64], face: &[u32], own: &[f64], j: usize, all: bool) -> 
 // The contributions of a cell's faces, added to the sum so far in the order of the faces.
 fn add_faces(
     t: SumSoFar,
-    coords: &[f64],
-    corners: &[u32],
-    ends: &[u32],
+    cell: &SoundCell,
     both: &[f64],
     kept: &mut [f64],
     first: &mut [f64],
     second: &mut [f64],
 ) -> Result<f64, NoRoom>
-    requires sound { Sound coords.now corners.now ends.now }
-    requires stocked { Stocked t.other (t.count * 4) (planes_of (vertices_of coords.now) (faces_of corners.now ends.now))
+    requires stocked { Stocked t.other (t.count * 4) (planes_of (vertices cell.now) (faces cell.now))
         both.now kept.old }
     requires first_len_bound { (length first.old ≤ most_work_numbers) × (length second.old ≤ most_work_numbers) }
     ensures { result ≡ added_to t.m.reference t.sum (patches_of t.other (room_of first.old second.old) t.m
-        (vertices_of coords.now) (faces_of corners.now ends.now)
+        (vertices cell.now) (faces cell.now)
         (in_fours (other_part t.other (t.count * 4) both.now))) }
 {
     let m = t.m;
     let n = t.count * 4;
     let own = own_part(both, n, t.other);
     let planes = other_part(both, n, t.other);
-    let all = own.len() == ends.len() * 4;
+    let all = own.len() == cell.ends.len() * 4;
     let mut sum = t.sum;
     let mut j = 0;
     let mut start = 0;
-    for &end in ends {
-        let face = cell::face(corners, start, end as usize);
-        let found = own_plane(coords, face, own, j, all);
+    for &end in cell.ends {
+        let face = cell::face(cell.corners, start, end as usize);
+        let found = own_plane(cell.coords, face, own, j, all);
         start = end as usize;
         j += places::one_if(found.is_some());
         let u = so_far(t.other, t.count, m, sum);
-        sum = add_face(u, coords, face, found, planes, kept, first, second)?;
+        sum = add_face(u, cell.coords, face, found, planes, kept, first, second)?;
     }
     Ok(sum)
 }
 
 // The planes of both cells laid down at the front of a list, those of the first before those of the second, and how
 // many there are of each.
-fn both_planes(
-    coords: &[f64],
-    corners: &[u32],
-    ends: &[u32],
-    coords2: &[f64],
-    corners2: &[u32],
-    ends2: &[u32],
-    list: &mut [f64],
-) -> PlaneCounts
-    requires solid { Solid coords.now corners.now ends.now }
-    requires solid_2 { Solid coords2.now corners2.now ends2.now }
-    requires ends2_in_bounds { length ends.now * 4 + length ends2.now * 4 ≤ length list.old }
-    ensures ends_value { result.planes + no_area_count (vertices_of coords.now) (faces_of corners.now ends.now) ≡ length ends.now }
-    ensures ends2_value { result.planes2 + no_area_count (vertices_of coords2.now) (faces_of corners2.now ends2.now) ≡ length ends2.now }
-    ensures joint { Joint (result.planes * 4) (result.planes2 * 4) (planes_of (vertices_of coords.now) (faces_of corners.now ends.now))
-        (planes_of (vertices_of coords2.now) (faces_of corners2.now ends2.now)) (take ((result.planes + result.planes2) * 4) list.new) }
+fn both_planes(cell: &SoundCell, cell2: &SoundCell, list: &mut [f64]) -> PlaneCounts
+    requires solid { Solid cell.now × Solid cell2.now }
+    requires ends2_in_bounds { length cell.now.ends.now * 4 + length cell2.now.ends.now * 4 ≤ length list.old }
+    ensures ends_value { result.planes + no_area_count (vertices cell.now) (faces cell.now) ≡ length cell.now.ends.now }
+    ensures ends2_value { result.planes2 + no_area_count (vertices cell2.now) (faces cell2.now) ≡ length cell2.now.ends.now }
+    ensures joint { Joint (result.planes * 4) (result.planes2 * 4) (planes_of (vertices cell.now) (faces cell.now))
+        (planes_of (vertices cell2.now) (faces cell2.now)) (take ((result.planes + result.planes2) * 4) list.new) }
 {
-    let planes = planes::planes(coords, corners, ends, list);
+    let planes = planes::planes(cell, list);
     let from = planes * 4;
-    let planes2 = planes::planes(coords2, corners2, ends2, &mut list[from..]);
+    let planes2 = planes::planes(cell2, &mut list[from..]);
     PlaneCounts { planes, planes2 }
 }
 
 // The overlap of two cells: one list has the planes of both, the other some of the second's, and they have so many numbers.
 fn overlap_in<const BOTH: usize, const KEPT: usize>(
-    coords: &[f64],
-    corners: &[u32],
-    ends: &[u32],
-    coords2: &[f64],
-    corners2: &[u32],
-    ends2: &[u32],
+    cell: &SoundCell,
+    cell2: &SoundCell,
     first: &mut [f64],
     second: &mut [f64],
 ) -> Result<Shared, NoRoom>
-    requires solid { Solid coords.now corners.now ends.now }
-    requires solid_2 { Solid coords2.now corners2.now ends2.now }
-    requires both_in_bounds { (length ends.now * 4 + length ends2.now * 4 ≤ BOTH) × (BOTH ≤ 2048) }
-    requires kept_in_bounds { (length ends.now * 4 ≤ KEPT) × (length ends2.now * 4 ≤ KEPT) × (KEPT ≤ 1024) }
+    requires solid { Solid cell.now × Solid cell2.now }
+    requires both_in_bounds { (length cell.now.ends.now * 4 + length cell2.now.ends.now * 4 ≤ BOTH) × (BOTH ≤ 2048) }
+    requires kept_in_bounds { (length cell.now.ends.now * 4 ≤ KEPT) × (length cell2.now.ends.now * 4 ≤ KEPT) × (KEPT ≤ 1024) }
     requires first_len_bound { (length first.old ≤ most_work_numbers) × (length second.old ≤ most_work_numbers) }
     ensures { result ≡ both_counted (overlap_of (room_of first.old second.old))
-        (vertices_of coords.now) (faces_of corners.now ends.now) (vertices_of coords2.now) (faces_of corners2.now ends2.now) }
+        (vertices cell.now) (faces cell.now) (vertices cell2.now) (faces cell2.now) }
 {
     let mut list = [0.0; BOTH];
     let mut kept = [0.0; KEPT];
-    let c = both_planes(coords, corners, ends, coords2, corners2, ends2, &mut list);
+    let c = both_planes(cell, cell2, &mut list);
     let list = &list[..];
     let both = &list[0..(c.planes + c.planes2) * 4];
-    let m = tolerances::measures(coords, coords2);
+    let m = tolerances::measures(cell.coords, cell2.coords);
     let t = so_far(false, c.planes, m, 0.0);
-    let sum = add_faces(t, coords, corners, ends, both, &mut kept, first, second)?;
+    let sum = add_faces(t, cell, both, &mut kept, first, second)?;
     let u = so_far(true, c.planes2, m, sum);
-    let whole = add_faces(u, coords2, corners2, ends2, both, &mut kept, first, second)?;
+    let whole = add_faces(u, cell2, both, &mut kept, first, second)?;
     Ok(Shared {
         volume: floats::magnitude(whole),
-        arealess: ends.len() - c.planes,
-        arealess2: ends2.len() - c.planes2,
+        arealess: cell.ends.len() - c.planes,
+        arealess2: cell2.ends.len() - c.planes2,
     })
 }
 
 // The overlap of two cells. The lists are small where both cells have at most 16 faces.
 fn overlap(
-    coords: &[f64],
-    corners: &[u32],
-    ends: &[u32],
-    coords2: &[f64],
-    corners2: &[u32],
-    ends2: &[u32],
+    cell: &SoundCell,
+    cell2: &SoundCell,
     first: &mut [f64],
     second: &mut [f64],
 ) -> Result<Shared, NoRoom>
-    requires solid { Solid coords.now corners.now ends.now }
-    requires solid_2 { Solid coords2.now corners2.now ends2.now }
+    requires solid { Solid cell.now × Solid cell2.now }
     requires first_len_bound { (length first.old ≤ most_work_numbers) × (length second.old ≤ most_work_numbers) }
     ensures { result ≡ both_counted (overlap_of (room_of first.old second.old))
-        (vertices_of coords.now) (faces_of corners.now ends.now) (vertices_of coords2.now) (faces_of corners2.now ends2.now) }
+        (vertices cell.now) (faces cell.now) (vertices cell2.now) (faces cell2.now) }
 {
-    if ends.len().max(ends2.len()) <= 16 {
-        return overlap_in::<128, 64>(
-            coords, corners, ends, coords2, corners2, ends2, first, second,
-        );
+    if cell.ends.len().max(cell2.ends.len()) <= 16 {
+        return overlap_in::<128, 64>(cell, cell2, first, second);
     }
-    overlap_in::<2048, 1024>(
-        coords, corners, ends, coords2, corners2, ends2, first, second,
-    )
+    overlap_in::<2048, 1024>(cell, cell2, first, second)
 }
 
 // The same, and 0 where the boxes miss each other.
 fn intersection(
-    coords: &[f64],
-    corners: &[u32],
-    ends: &[u32],
-    coords2: &[f64],
-    corners2: &[u32],
-    ends2: &[u32],
+    cell: &SoundCell,
+    cell2: &SoundCell,
     first: &mut [f64],
     second: &mut [f64],
 ) -> Result<Shared, NoRoom>
-    requires solid { Solid coords.now corners.now ends.now }
-    requires solid_2 { Solid coords2.now corners2.now ends2.now }
+    requires solid { Solid cell.now × Solid cell2.now }
     requires first_len_bound { (length first.old ≤ most_work_numbers) × (length second.old ≤ most_work_numbers) }
-    ensures { result ≡ overlapped_of (room_of first.old second.old) (vertices_of coords.now) (faces_of corners.now ends.now)
-        (vertices_of coords2.now) (faces_of corners2.now ends2.now) }
+    ensures { result ≡ overlapped_of (room_of first.old second.old) (vertices cell.now) (faces cell.now)
+        (vertices cell2.now) (faces cell2.now) }
 {
-    if tolerances::boxes_miss(flat::space::bounds(coords), flat::space::bounds(coords2)) {
-        let arealess = planes::no_area_count(coords, corners, ends);
-        let arealess2 = planes::no_area_count(coords2, corners2, ends2);
+    if tolerances::boxes_miss(
+        flat::space::bounds(cell.coords),
+        flat::space::bounds(cell2.coords),
+    ) {
+        let arealess = planes::no_area_count(cell);
+        let arealess2 = planes::no_area_count(cell2);
         return Ok(Shared {
             volume: 0.0,
             arealess,
             arealess2,
         });
     }
-    overlap(
-        coords, corners, ends, coords2, corners2, ends2, first, second,
-    )
+    overlap(cell, cell2, first, second)
 }
 
 // The volume of what two cells share, 0 where their boxes miss each other, and how many faces of each have no area. Both work lists are
 // cleared.
 // Ruled out: a face that both cells share counted twice; faces of no area counted only where the boxes meet.
 pub fn convex_intersection_volume(
-    coords: &[f64],
-    corners: &[u32],
-    ends: &[u32],
-    coords2: &[f64],
-    corners2: &[u32],
-    ends2: &[u32],
+    cell: &SoundCell,
+    cell2: &SoundCell,
     first: &mut [f64],
     second: &mut [f64],
 ) -> Result<Shared, NoRoom>
-    requires solid { Solid coords.now corners.now ends.now }
-    requires solid_2 { Solid coords2.now corners2.now ends2.now }
+    requires solid { Solid cell.now × Solid cell2.now }
     requires first_len_bound { (length first.old ≤ most_work_numbers) × (length second.old ≤ most_work_numbers) }
     ensures value { result ≡ overlapped_of
         (shorter_of (length (vertices_of first.old)) (length (vertices_of second.old)))
-        (vertices_of coords.now) (faces_of corners.now ends.now)
-        (vertices_of coords2.now) (faces_of corners2.now ends2.now) }
+        (vertices cell.now) (faces cell.now)
+        (vertices cell2.now) (faces cell2.now) }
     ensures first_after { (first.new ≡ replicate (length first.old) zero64)
         × (second.new ≡ replicate (length second.old) zero64) }
 {
-    let r = intersection(
-        coords, corners, ends, coords2, corners2, ends2, first, second,
-    );
+    let r = intersection(cell, cell2, first, second);
     work_lists::wipe(first, 0);
     work_lists::wipe(second, 0);
     r

@@ -1,11 +1,10 @@
 // Planes: a unit normal and an offset, the plane of a face or that it has no area, and planes in a list.
 #![tactic(auto)]
 
-ghost use Rattle.std.specs.Prelude.{◌≡◌, [], ◌+◌, ◌*◌, ◌<◌, ◌≤◌, length, get_or, set, take, false};
+ghost use Rattle.std.specs.Prelude.{◌≡◌, [], ◌+◌, ◌*◌, ◌<◌, ◌≤◌, length, get_or, set, take};
 ghost use Rattle.flat.specs.Points.{vertices_of, corners_of};
 ghost use Rattle.flat.specs.Steps.{Inside};
-ghost use Rattle.cell.specs.SoundCell.{vertices, faces};
-ghost use Rattle.cell.specs.Refusals.{empty_refused};
+ghost use Rattle.cell.specs.SoundCell.{vertices, faces, Solid};
 ghost use Rattle.planes.specs.Planes.{dot_of, offset_of, unit_plane, all_zero, has_no_area, plane_of, planes_of, no_area_faces};
 ghost use Rattle.planes.specs.Planes.{no_area_count};
 ghost use Rattle.planes.specs.Planes.{distance_of, same_side, coplanar_opposite, in_fours};
@@ -157,7 +156,7 @@ pub fn put_plane(out: &mut [f64], k: usize, plane: Plane)
 // The planes of a cell's faces that have area, laid down at the front of a list, and how many there are.
 // Ruled out: every face taken from the first corner on; a place kept free for a face of no area.
 pub fn planes(cell: &SoundCell, out: &mut [f64]) -> usize
-    requires ends_value { empty_refused cell.now.corners.now cell.now.ends.now ≡ false }
+    requires solid { Solid cell.now }
     requires ends_in_bounds { 4 * length cell.now.ends.now ≤ length out.old }
     ensures value { result ≡ length (planes_of (vertices cell.now) (faces cell.now)) }
     ensures out_value { take result (in_fours out.new) ≡ planes_of (vertices cell.now) (faces cell.now) }

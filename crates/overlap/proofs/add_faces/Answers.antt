@@ -5,7 +5,7 @@ use mathlib.Core.Bool.{true}
 use Prim.Native.Nat.{◌*◌, zero-le}
 use native.Mathlib.Omega.{arith}
 use lib.Dec.{eqb}
-use lib.ListN.{length, get_or}
+use lib.ListN.{length}
 use borrow.Author.Tests.{eqb-true}
 use Rattle.places.proofs.Lists.{each_slice}
 use Rattle.planes.specs.Planes.{in_fours}
@@ -20,7 +20,7 @@ use Rattle.overlap.proofs.add_faces.Goals.{At-loop-end}
 pub loop-end-init : goal.loop-end-init
 loop-end-init c =
     let own_planes = ap in_fours c.own_part-own.ensures ∙ c.requires.stocked.own_planes in
-    (lengths_start, zero-le, beside_start own_planes, rw patches_are (add_start c.requires.sound.ordered))
+    (lengths_start, zero-le, beside_start own_planes, rw patches_are (add_start c.args.cell.now.sound.ordered))
 
 pub face-face-requires : goal.face-face-requires
 face-face-requires c =
@@ -28,18 +28,16 @@ face-face-requires c =
     (step.from, step.upto)
 
 -- there are as many planes as faces where the list has four numbers for each face
-many_planes : (c : At-loop-end) → eqb (length c.own_part-own.result.now) (length c.args.ends.now * 4) ≡ true
-    → length (in_fours c.own_part-own.result.now) ≡ length c.args.ends.now
+many_planes : (c : At-loop-end) → eqb (length c.own_part-own.result.now) (length c.args.cell.now.ends.now * 4) ≡ true
+    → length (in_fours c.own_part-own.result.now) ≡ length c.args.cell.now.ends.now
 many_planes c t =
     let own = c.own_part-own.result.now in
-    omega (arith, eqb-true (length own) (length c.args.ends.now * 4) t, length_fours own)
+    omega (arith, eqb-true (length own) (length c.args.cell.now.ends.now * 4) t, length_fours own)
 
 pub own_plane-found-requires : goal.own_plane-found-requires
 own_plane-found-requires c =
     let at = (goal.at.own_plane-found-requires c).At-loop-end in record {
-      inside =
-          let end = get_or c.args.ends.now c.loop-end.end-index 0 in
-          rw c.face-face.ensures (each_slice c.loop-end.start end c.args.corners.now c.requires.sound.inside);
+      inside = rw c.face-face.ensures (each_slice _ _ c.args.cell.now.corners.now c.args.cell.now.sound.inside);
       next = beside_next_face c.loop-end.invariant.2 c.loop-end-test.true refl (many_planes at) c.loop-end.invariant.1
           c.face-face.ensures;
     }
@@ -48,9 +46,7 @@ pub add_face-requires : goal.add_face-requires
 add_face-requires c =
     let others = c.other_part-planes.ensures in
     let same = c.loop-end.invariant.0 in record {
-      ready =
-          let end = get_or c.args.ends.now c.loop-end.end-index 0 in
-          ready_at c.loop-end.start end c.requires.sound c.face-face.ensures (rw others c.requires.stocked.few_others)
+      ready = ready_at _ _ c.args.cell.now.sound c.face-face.ensures (rw others c.requires.stocked.few_others)
           (rw same.of_first c.requires.first_len_bound.0) (rw same.of_second c.requires.first_len_bound.1);
       found_value = c.own_plane-found.ensures;
       planes_in_bounds = rw (others, same.of_kept) c.requires.stocked.room;

@@ -10,7 +10,7 @@ use Rattle.overlap.proofs.both_planes.Goals as goal
 use Rattle.overlap.proofs.both_planes.Goals.{After-planes-planes}
 
 -- the first cell has no more planes than faces
-few : (c : After-planes-planes) → c.planes-planes.result ≤ length c.args.ends.now
+few : (c : After-planes-planes) → c.planes-planes.result ≤ length c.args.cell.now.ends.now
 few c = omega (arith, with_others _ _ _ c.planes-planes.ensures.value)
 
 pub overflow_mul-from : goal.overflow_mul-from
@@ -28,8 +28,7 @@ slice_bounds-planes-start c = omega (arith, few (goal.at.slice_bounds-planes-sta
 pub planes-planes2-requires : goal.planes-planes2-requires
 planes-planes2-requires c =
     record {
-      sound = c.requires.solid_2.sound;
-      ends_value = c.requires.solid_2.no_empty;
+      solid = c.requires.solid.1;
       ends_in_bounds = simp (length-take, length-drop) (omega (arith, few (goal.at.planes-planes2-requires c).After-planes-planes));
     }
 

@@ -7,7 +7,7 @@ use lib.ListN.{take}
 use lib.Ieee.{Float}
 use Rattle.std.specs.Prelude.{Ok}
 use Rattle.flat.specs.Points.{vertices_of}
-use Rattle.cell.specs.Faces.{faces_of}
+use Rattle.cell.specs.SoundCell.{vertices, faces}
 use Rattle.planes.specs.Planes.{planes_of}
 use Rattle.overlap.specs.Steps.{Joint}
 use Rattle.overlap.proofs.Overlaps.{overlap_refused, overlap_is, joint_cut, left_over}
@@ -27,8 +27,8 @@ all g c = (c.both_planes-c.result.planes + c.both_planes-c.result.planes2) * 4
 
 -- they are those of both cells
 joint : (g : Over) (c : After-both_planes-c g) → Joint (c.both_planes-c.result.planes * 4) (c.both_planes-c.result.planes2 * 4)
-    (planes_of (vertices_of c.args.coords.now) (faces_of c.args.corners.now c.args.ends.now))
-    (planes_of (vertices_of c.args.coords2.now) (faces_of c.args.corners2.now c.args.ends2.now)) (take (all g c - 0) (planes g c))
+    (planes_of (vertices c.args.cell.now) (faces c.args.cell.now))
+    (planes_of (vertices c.args.cell2.now) (faces c.args.cell2.now)) (take (all g c - 0) (planes g c))
 joint g c = joint_cut (all g c) (planes g c) c.both_planes-c.ensures.joint
 
 pub measures-m-requires : goal.measures-m-requires

@@ -13,7 +13,7 @@ use Rattle.planes.proofs.planes.Goals.{in-Some, in_default}
 pub loop-end-init : goal.loop-end-init
 loop-end-init c =
     let fours = length_fours c.args.out.now in
-    (refl, gather_start c.args.cell.now.sound.ordered c.requires.ends_value (omega (arith, fours, c.requires.ends_in_bounds)))
+    (refl, gather_start c.args.cell.now.sound.ordered c.requires.solid (omega (arith, fours, c.requires.ends_in_bounds)))
 
 pub face-face-requires : goal.face-face-requires
 face-face-requires c =

@@ -6,6 +6,7 @@ ghost use Rattle.geometry.specs.Clipping.{shared_shown};
 ghost use Rattle.geometry.specs.Clipping.{shared_answer, overlap_answer};
 
 use crate::{Outline, Shared};
+use cell::SoundCell;
 use places::refusal::Refusal;
 
 // An outline as an entry shows it.
@@ -104,8 +105,16 @@ pub fn convex_intersection_volume(
     refusals::overlap_refusal(
         coords, corners, ends, coords2, corners2, ends2, first, second,
     )?;
-    let shared = overlap::convex_intersection_volume(
-        coords, corners, ends, coords2, corners2, ends2, first, second,
-    )?;
+    let cell = SoundCell {
+        coords,
+        corners,
+        ends,
+    };
+    let cell2 = SoundCell {
+        coords: coords2,
+        corners: corners2,
+        ends: ends2,
+    };
+    let shared = overlap::convex_intersection_volume(&cell, &cell2, first, second)?;
     Ok(Shared::from(shared))
 }

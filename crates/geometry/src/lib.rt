@@ -1,7 +1,7 @@
 // The gatehouse: every public entry takes any input, refuses by the numbers of SCOPE 3, in their order, and then calls a room.
 // The entries on a cell and the check of triangles over a face's places stand here, with every type of a public signature but the refusal,
 // which is in `places`; those on lists of points in `in_space` and `in_plane`, clipping in `clipping`, the fixed shapes in `fixed`, the leaves in `leaves`.
-// A cell's three lists stay three arguments, as every C name has them.
+// A cell's three lists stay three arguments, as every C name has them; past the check they go on as one sound cell.
 #![tactic(auto)]
 
 pub mod clipping;
@@ -20,6 +20,7 @@ ghost use Rattle.geometry.specs.CheckCut.{check_cut_answer, YesForCuts};
 ghost use Rattle.geometry.specs.Survey.{survey_answer};
 ghost use Rattle.geometry.specs.TurnFaces.{can_turn_answer, TurnFacesGives};
 
+use cell::SoundCell;
 use places::refusal::Refusal;
 
 // A point and a box, of space and of the plane, with names for the coordinates.
@@ -145,7 +146,12 @@ pub fn volume(coords: &[f64], corners: &[u32], ends: &[u32]) -> Result<f64, Refu
     ensures { result ≡ volume_answer coords.now corners.now ends.now }
 {
     refusals::cell_refusal(coords, corners, ends)?;
-    Ok(volume::volume(coords, corners, ends))
+    let cell = SoundCell {
+        coords,
+        corners,
+        ends,
+    };
+    Ok(volume::volume(&cell))
 }
 
 // The vertex centroid.
@@ -163,7 +169,12 @@ pub fn geometric_centroid(coords: &[f64], corners: &[u32], ends: &[u32]) -> Resu
     ensures { result ≡ geometric_centroid_answer coords.now corners.now ends.now }
 {
     refusals::cell_refusal(coords, corners, ends)?;
-    Ok(Point3::from(volume::geometric_centroid(coords, corners, ends)))
+    let cell = SoundCell {
+        coords,
+        corners,
+        ends,
+    };
+    Ok(Point3::from(volume::geometric_centroid(&cell)))
 }
 
 // The box of all vertices.
@@ -199,7 +210,12 @@ pub fn contains(coords: &[f64], corners: &[u32], ends: &[u32], p: [f64; 3]) -> R
     ensures { result ≡ contains_answer coords.now corners.now ends.now p }
 {
     refusals::contains_refusal(coords, corners, ends, p)?;
-    Ok(inside::contains(coords, corners, ends, p))
+    let cell = SoundCell {
+        coords,
+        corners,
+        ends,
+    };
+    Ok(inside::contains(&cell, p))
 }
 
 // The description of a cell's lists.
@@ -239,12 +255,17 @@ pub fn is_convex(
     ensures { result ≡ is_convex_answer coords.now corners.now ends.now convexity }
 {
     refusals::cell_refusal(coords, corners, ends)?;
+    let cell = SoundCell {
+        coords,
+        corners,
+        ends,
+    };
     let c = description(coords, corners, ends, convexity);
     let shape = c.convexity;
     match shape {
         Convexity::Convex => Ok(true),
         Convexity::Concave => Ok(false),
-        Convexity::Unknown => Ok(outward::compute_convexity(coords, corners, ends)),
+        Convexity::Unknown => Ok(outward::compute_convexity(&cell)),
     }
 }
 
@@ -307,8 +328,13 @@ pub fn no_area_faces(
     ensures { (result, out.new) ≡ no_area_faces_answer coords.now corners.now ends.now out.old }
 {
     refusals::no_area_refusal(coords, corners, ends, out.len())?;
+    let cell = SoundCell {
+        coords,
+        corners,
+        ends,
+    };
     let n = ends.len();
-    planes::no_area_faces(coords, corners, ends, &mut out[..n]);
+    planes::no_area_faces(&cell, &mut out[..n]);
     Ok(())
 }
 
@@ -392,12 +418,17 @@ pub fn survey(
     ensures { result ≡ survey_answer coords.now corners.now ends.now queries.now }
 {
     refusals::survey_refusal(coords, corners, ends, queries)?;
-    let m = volume::measure(coords, corners, ends);
+    let cell = SoundCell {
+        coords,
+        corners,
+        ends,
+    };
+    let m = volume::measure(&cell);
     Ok(Findings {
         triangles: m.triangles,
         closed: closedness::closed(corners, ends, coords.len() / 3),
         short: m.short,
         volume: floats::magnitude(m.v6) / 6.0,
-        contained: inside::count_contained(coords, corners, ends, queries),
+        contained: inside::count_contained(&cell, queries),
     })
 }

@@ -162,7 +162,7 @@ pub fn point_in_phed(coords: &[f64], cs: &[u32], p: [f64; 3]) -> bool
 
 // How many of the query points the cell contains.
 pub fn count_contained(cell: &SoundCell, queries: &[f64]) -> usize
-    requires queries_len_bound { length queries.now ≤ 770 }
+    requires { length queries.now ≤ 770 }
     ensures { result ≡ count_of (holds (vertices cell.now) (faces cell.now)) (vertices_of queries.now) }
 {
     let mut found = 0;

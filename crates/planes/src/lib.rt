@@ -178,7 +178,7 @@ pub fn planes(cell: &SoundCell, out: &mut [f64]) -> usize
 // For each face of a cell 1 where it has no area, else 0, one a place of a list that has just so many.
 // Ruled out: 1 for a face with area and 0 for the others; every face taken from the first corner on.
 pub fn no_area_faces(cell: &SoundCell, out: &mut [usize])
-    requires out_len { length out.old ≡ length cell.now.ends.now }
+    requires { length out.old ≡ length cell.now.ends.now }
     ensures { out.new ≡ no_area_faces (vertices cell.now) (faces cell.now) }
 {
     let mut start = 0;

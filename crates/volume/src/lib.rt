@@ -111,7 +111,7 @@ fn add_face(
 
 // One pass over the faces; the triangles of each are laid down in out.
 fn measure_in(cell: &SoundCell, out: &mut [[u32; 3]]) -> Measured
-    requires corners_in_bounds { length cell.now.corners.now ≤ length out.old }
+    requires { length cell.now.corners.now ≤ length out.old }
     ensures { result ≡ measured_of (vertices cell.now) (faces cell.now) }
 {
     let refp = flat::space::vertex_centroid(cell.coords);
@@ -138,7 +138,7 @@ fn measure_in(cell: &SoundCell, out: &mut [[u32; 3]]) -> Measured
 // The same with a list of its own for the triangles of a face, of N places. Each size is a function: a small cell does not clear the list
 // of a large one.
 fn measure_sized<const N: usize>(cell: &SoundCell) -> Measured
-    requires n_bound { (length cell.now.corners.now ≤ N) × (N ≤ most_corners) }
+    requires { (length cell.now.corners.now ≤ N) × (N ≤ most_corners) }
     ensures { result ≡ measured_of (vertices cell.now) (faces cell.now) }
 {
     let mut out = [[0u32; 3]; N];
@@ -252,7 +252,7 @@ fn moments_sized<const N: usize>(cell: &SoundCell, refp: [f64; 3]) -> Moments
 
 // The list is small for usual cells.
 fn sum_moments(cell: &SoundCell, refp: [f64; 3]) -> Moments
-    requires refp_value { refp ≡ centroid_of 3 (vertices cell.now) }
+    requires { refp ≡ centroid_of 3 (vertices cell.now) }
     ensures { result ≡ moments_of (vertices cell.now) (faces cell.now) }
 {
     if cell.corners.len() <= 256 {

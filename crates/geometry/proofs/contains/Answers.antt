@@ -10,9 +10,9 @@ pub returns-in_err-contains_refusal : goal.returns-in_err-contains_refusal
 unfolding contains_answer
 returns-in_err-contains_refusal c = refused _ c.from_residual.ensures.1 c.in_err-contains_refusal.ensures
 
-pub contains-requires : goal.contains-requires
-contains-requires c =
-    sound c.args.coords.now c.args.corners.now c.args.ends.now c.args.p [] (sym c.in_ok-contains_refusal.ensures)
+pub invariant_of-cell : goal.invariant_of-cell
+invariant_of-cell c =
+    record { sound = sound c.args.coords.now c.args.corners.now c.args.ends.now c.args.p [] (sym c.in_ok-contains_refusal.ensures) }
 
 pub returns : goal.returns
 unfolding contains_answer

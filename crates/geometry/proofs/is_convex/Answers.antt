@@ -11,9 +11,9 @@ pub returns-in_err-cell_refusal : goal.returns-in_err-cell_refusal
 unfolding is_convex_answer
 returns-in_err-cell_refusal c = refused _ c.from_residual.ensures.1 c.in_err-cell_refusal.ensures
 
-pub compute_convexity-requires : goal.compute_convexity-requires
-compute_convexity-requires c =
-    sound c.args.coords.now c.args.corners.now c.args.ends.now [] [] (sym c.in_ok-cell_refusal.ensures)
+pub invariant_of-cell : goal.invariant_of-cell
+invariant_of-cell c =
+    record { sound = sound c.args.coords.now c.args.corners.now c.args.ends.now [] [] (sym c.in_ok-cell_refusal.ensures) }
 
 pub returns-in-Convex : goal.returns-in-Convex
 unfolding is_convex_answer is_convex_of cell_of

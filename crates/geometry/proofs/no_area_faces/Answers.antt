@@ -37,12 +37,19 @@ slice_bounds-no_area_faces-end-2 c =
     (sym c.in_ok-no_area_refusal.ensures) in
     simp length-take (omega (arith, known.1))
 
+pub invariant_of-cell : goal.invariant_of-cell
+invariant_of-cell c =
+    let args = c.args in
+    let known = no_area_known args.coords.now args.corners.now args.ends.now (length args.out.now)
+    (sym c.in_ok-no_area_refusal.ensures) in
+    record { sound = known.0 }
+
 pub no_area_faces-requires : goal.no_area_faces-requires
 no_area_faces-requires c =
     let args = c.args in
     let known = no_area_known args.coords.now args.corners.now args.ends.now (length args.out.now)
     (sym c.in_ok-no_area_refusal.ensures) in
-    record { sound = known.0; out_len = simp length-take (omega (arith, known.1)) }
+    simp length-take (omega (arith, known.1))
 
 pub returns : goal.returns
 unfolding no_area_faces_answer

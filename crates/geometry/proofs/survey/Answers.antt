@@ -13,10 +13,12 @@ pub returns-in_err-survey_refusal : goal.returns-in_err-survey_refusal
 unfolding survey_answer survey_of measured_of volume_of
 returns-in_err-survey_refusal c = refused _ c.from_residual.ensures.1 c.in_err-survey_refusal.ensures
 
-pub measure-m-requires : goal.measure-m-requires
-measure-m-requires c =
-    survey_sound c.args.coords.now c.args.corners.now c.args.ends.now c.args.queries.now
-    (sym c.in_ok-survey_refusal.ensures)
+pub invariant_of-cell : goal.invariant_of-cell
+invariant_of-cell c =
+    record {
+      sound = survey_sound c.args.coords.now c.args.corners.now c.args.ends.now c.args.queries.now
+          (sym c.in_ok-survey_refusal.ensures);
+    }
 
 pub closed-requires : goal.closed-requires
 closed-requires c =
@@ -26,10 +28,7 @@ closed-requires c =
 
 pub count_contained-requires : goal.count_contained-requires
 count_contained-requires c =
-    let z = sym c.in_ok-survey_refusal.ensures in record {
-      sound = survey_sound c.args.coords.now c.args.corners.now c.args.ends.now c.args.queries.now z;
-      queries_len_bound = few_queries c.args.coords.now c.args.corners.now c.args.ends.now c.args.queries.now z;
-    }
+    few_queries c.args.coords.now c.args.corners.now c.args.ends.now c.args.queries.now (sym c.in_ok-survey_refusal.ensures)
 
 pub returns : goal.returns
 unfolding survey_answer survey_of measured_of volume_of

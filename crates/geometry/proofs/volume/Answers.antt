@@ -10,10 +10,9 @@ pub returns-in_err-cell_refusal : goal.returns-in_err-cell_refusal
 unfolding volume_answer
 returns-in_err-cell_refusal c = refused _ c.from_residual.ensures.1 c.in_err-cell_refusal.ensures
 
-pub volume-requires : goal.volume-requires
-volume-requires c =
-    sound c.args.coords.now c.args.corners.now c.args.ends.now [] []
-    (sym c.in_ok-cell_refusal.ensures)
+pub invariant_of-cell : goal.invariant_of-cell
+invariant_of-cell c =
+    record { sound = sound c.args.coords.now c.args.corners.now c.args.ends.now [] [] (sym c.in_ok-cell_refusal.ensures) }
 
 pub returns : goal.returns
 unfolding volume_answer

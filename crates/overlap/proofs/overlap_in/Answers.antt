@@ -6,7 +6,6 @@ use Prim.Native.Nat.{ℕ, ◌+◌, ◌*◌, ◌-◌}
 use lib.ListN.{take}
 use lib.Ieee.{Float}
 use Rattle.std.specs.Prelude.{Ok}
-use Rattle.flat.specs.Points.{vertices_of}
 use Rattle.cell.specs.SoundCell.{vertices, faces}
 use Rattle.planes.specs.Planes.{planes_of}
 use Rattle.overlap.specs.Steps.{Joint}

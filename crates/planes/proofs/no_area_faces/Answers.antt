@@ -9,7 +9,7 @@ use Rattle.planes.proofs.no_area_faces.Goals as goal
 pub loop-k-init : goal.loop-k-init
 unfolding no_area_faces
 loop-k-init c =
-    lay_start c.args.cell.now.sound.ordered c.requires.out_len
+    lay_start c.args.cell.now.sound.ordered c.requires
 
 pub face-face-requires : goal.face-face-requires
 face-face-requires c =

@@ -7,8 +7,8 @@ ghost use Rattle.share.specs.Share.{share_answer};
 use places::refusal::Refusal;
 
 // The volume that two convex cells share, over the volume of the first, as f64 divides; a first cell of no volume gives NaN or an infinity.
-// Ruled out: the second cell's volume in its place; the volume over the overlap; the refusal of `volume` told before the overlap's; a share of
-// a cell that `volume` refuses; work lists that show an outline.
+// Ruled out: the second cell's volume in its place; the volume over the overlap; the refusal of `volume` told before the overlap's; a share
+// of a cell that `volume` refuses; work lists that show an outline.
 pub fn share(
     coords: &[f64],
     corners: &[u32],

@@ -1,5 +1,5 @@
--- `replay::replay_all` meets its contract: each turn takes a line and its line feed away, so what is left becomes shorter; it is never longer
--- than the text, so the place behind a line is no number too large.
+-- `replay::replay_all` meets its contract: each turn takes a line and its line feed away, so what is left becomes shorter; it is never
+-- longer than the text, so the place behind a line is no number too large.
 use Rattle.std.proofs.Common.{◌≤◌, length}
 use Rattle.replay.proofs.replay_all.Given as goal
 

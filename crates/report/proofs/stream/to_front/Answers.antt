@@ -1,4 +1,5 @@
--- `report::stream::to_front` meets its contract: what the library copies is the bytes from `from` on, and behind them the list is as it was.
+-- `report::stream::to_front` meets its contract: what the library copies is the bytes from `from` on, and behind them the list is as it
+-- was.
 use mathlib.Core.Path.{ap, ◌∙◌}
 use mathlib.Core.List.{◌++◌}
 use Prim.Native.Nat.{ℕ, ◌-◌}

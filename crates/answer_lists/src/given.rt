@@ -3,7 +3,7 @@ ghost use Rattle.std.specs.Prelude.{◌≡◌, ◌*◌, length};
 ghost use Rattle.geometry.specs.Leaves.{vertices_of};
 ghost use Rattle.geometry.specs.Listed.{shape_known};
 
-// What is known of a shape: 0 convex, 1 concave, any other number nothing.
+// What is known of a shape: 0 convex, 1 concave, any other number nothing. Written out, since the numbers are C's.
 // Ruled out: 2 taken for concave; 0 taken for nothing known.
 #[tactic(auto, unfolding(geometry::specs::Listed::shape_known))]
 pub fn shape_known(shape: u8) -> geometry::Convexity

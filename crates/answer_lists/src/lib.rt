@@ -173,7 +173,7 @@ pub fn put_surveyed(
     }
 }
 
-// What is known of a shape, as a number.
+// What is known of a shape, as a number. Written out, since the numbers are C's.
 fn shape_number(shape: geometry::Convexity) -> usize
     ensures { result ≡ shape_number shape }
 {

@@ -1,4 +1,4 @@
-// A cell: its faces, and why it is refused.
+// A cell: its faces, and why it is refused. A check takes three lists, as C has them, since nothing is known of them before it.
 #![tactic(auto)]
 
 ghost use Rattle.std.specs.Prelude.{◌≡◌, ◌||◌, ℕ, ◌<◌, ◌≤◌, [], ◌∷◌, length, get_or, T};

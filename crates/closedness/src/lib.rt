@@ -41,6 +41,7 @@ fn raise(tally: &mut [u32], c: usize, gap: usize) -> usize
 
 // The sides of a cell, linked in chains: a chain for each vertex, of the sides that have it as their lower end. A link is 0 where the chain
 // ends, and else 1 more than the place of a side, which has the next link of its chain and its code.
+// Places stand for links, since there is no heap; nothing copies the arrays.
 #[derive(Drop)]
 struct Chains<const N: usize> {
     head: [u16; places::limits::MOST_VERTICES],

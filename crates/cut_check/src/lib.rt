@@ -47,6 +47,7 @@ fn any_same(corners: &[u32]) -> bool
 
 // The corners of triangles beside a face of n corners, linked in chains: a chain for each place, of the corners at that place. A link is 0
 // where the chain ends, and else 1 more than the number of a corner, which has the next link of its chain.
+// Places stand for links, since there is no heap; nothing copies the arrays.
 #[derive(Drop)]
 struct Chains<'a, const N: usize, const M: usize> {
     n: usize,

@@ -32,6 +32,7 @@ struct Paired<'a> {
 
 // How far the faces are reached: all before `low`, and those in the list before `tail`;
 // of these, those before `head` have asked their neighbours. The list is lent with its length beside it, since this crate has no heap.
+// It and the codes are no part of a struct with ghost fields: they are written to, and no ghost field stands beside a `&mut`.
 #[derive(Drop)]
 struct Reached {
     low: usize,

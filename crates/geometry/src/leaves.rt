@@ -1,4 +1,4 @@
-// The leaves on numbers, points and planes: any bits, nothing refused.
+// The leaves on numbers, points and planes: any bits, nothing refused. Each stands here because C has a name for it.
 ghost use Rattle.std.specs.Prelude.{◌≡◌};
 ghost use Rattle.std.specs.Float.{binary64};
 ghost use Rattle.geometry.specs.Leaves.{magnitude_of, least_of, largest_of, root_of, hypot_of, to_bits, of_bits};

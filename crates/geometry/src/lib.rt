@@ -363,7 +363,7 @@ pub fn triangles(
 }
 
 // The triangles of the face with a number, each corner by its place in the face, 0 to n - 1, as `check_cut` takes them; room is asked for
-// and tests are counted as by `triangles`.
+// and tests are counted as by `triangles`. An entry beside `triangles`, since C has a name for each.
 // Ruled out: the vertex number of a corner; the place of another corner at which the same vertex stands.
 pub fn triangle_places(
     coords: &[f64],

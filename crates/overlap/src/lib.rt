@@ -47,6 +47,7 @@ struct PlaneCounts {
 }
 
 // Whose faces are added, those of the first cell or of the other, how many planes they have, by which measures, and their sum so far.
+// `other` is a truth, since the definitions are over it; a closure in its place would have its contract said at each use.
 #[derive(Clone, Copy)]
 struct SumSoFar {
     other: bool,
@@ -361,7 +362,7 @@ fn overlap_in<const BOTH: usize, const KEPT: usize>(
     })
 }
 
-// The overlap of two cells. The lists are small where both cells have at most 16 faces.
+// The overlap of two cells. The lists are small where both cells have at most 16 faces; they stand on the stack, since there is no heap.
 fn overlap(
     cell: &SoundCell,
     cell2: &SoundCell,

@@ -6,6 +6,7 @@ use crate::words::{capped, part, word};
 
 // Each list comes from a function whose contract states only its length, so the prover never expands its elements. Numbers are
 // the least above 0 and whole numbers 4294967295 before the call, so that a write past the answer is seen.
+// They are functions each for itself, since each has its own type and what stands in it; one for all would be told both at every call.
 pub fn values_room() -> [f64; 8]
     ensures { 8 ≡ length result }
 {

@@ -58,7 +58,8 @@ fn in_lists(
     ends: &[u32],
     lent: &mut Lent,
 ) -> bool {
-    // By number, as the stored list has it: each number is read at one place, and an enum of names would say it once more.
+    // By number, as the stored list has it: the tens lead to a function, and it reads the number; an enum of names would say each once
+    // more.
     match word(q, 0) {
         80 => turned::outward(q, coords, corners, ends, lent),
         81 => turned::backward(q, coords, corners, ends, lent),

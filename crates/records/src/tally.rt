@@ -160,7 +160,7 @@ impl Tally {
         }
     }
 
-    // Kind 5.
+    // Kind 5. Beside `vertex`: one function for both would take the list and the count of its field as a closure, and is no plainer.
     pub fn query(self, r: Rec, queries: &mut [f64]) -> Tally
         requires { most_coordinates ≤ length queries.old }
         ensures value { result ≡ query_taken self r }

@@ -1,4 +1,5 @@
-// Why the public entries refuse: each check in the order of SCOPE 3.
+// Why the public entries refuse: each check in the order of SCOPE 3. A cell is three lists here, as C has them, since nothing is known of
+// them before the check.
 #![tactic(auto)]
 
 ghost use Rattle.std.specs.Prelude.{◌≡◌, ◌-◌, ◌<◌};

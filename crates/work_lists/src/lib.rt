@@ -1,4 +1,4 @@
-// Work lists: the answer of a clipping, the stretch that shows it, and +0 everywhere else.
+// Work lists: the answer of a clipping, the stretch that shows it, and +0 everywhere else. They stay two arguments, as C lends them.
 #![tactic(auto)]
 
 ghost use Rattle.std.specs.Prelude.{◌≡◌, true, false, cond, ◌++◌, ◌-◌, ◌≤◌, length, take, replicate};

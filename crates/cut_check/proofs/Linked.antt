@@ -1,4 +1,4 @@
--- The corners of each place in a chain, for `Chains::new` and for the loops that go along a chain: a corner that is put before the first
+-- The corners of each place in a chain, for `link` and for the loops that go along a chain: a corner that is put before the first
 -- of a chain leaves every chain as it was, since the corners of a chain come before it.
 use mathlib.Core.Path.{◌≡◌, sym, ◌∙◌, subst}
 use mathlib.Core.Logic.{◌≢◌}
@@ -9,13 +9,13 @@ use native.Mathlib.Decide.{ℕ_discrete}
 use native.Mathlib.Numerals.{add-one}
 use native.Mathlib.Omega.{arith}
 use lib.Dec.{eqb}
-use lib.ListN.{length, get_or, set, take, replicate}
+use lib.ListN.{length, get_or, set, take}
 use lib.Seq.{get_or-set_same, get_or-set_other}
 use borrow.Author.Tests.{eq-eqb, ne_eqb}
 use Rattle.std.proofs.lemmas.List.{get_or-take, length-take}
 use Rattle.places.specs.Steps.{Blank}
-use Rattle.places.proofs.Stamps.{zeros, set_holds}
-use Rattle.cut_check.specs.Steps.{corners_at, Chain, Lists}
+use Rattle.places.proofs.Stamps.{set_holds}
+use Rattle.cut_check.specs.Steps.{corners_at, Chain, Lists, Linked}
 
 -- the chain of a place starts at one of the first s corners, or is empty
 pub chain_within : (next c : List ℕ) (a h s : ℕ) → Chain next h (corners_at a c s) → h ≤ s
@@ -44,13 +44,8 @@ chain_keep next s x h (p ∷ ps) back g t =
     let rest = chain_keep next s x (get_or next p 0) ps back (omega (arith, back p)) t.1 in
     (start, rw (get_or-set_other next s p x 0 n) rest)
 
--- after s corners: each link goes back, and the chains have these corners
-pub record Linked (head next c : List ℕ) (s : ℕ) : Type 0 where
-  pub back : (p : ℕ) → get_or next p 0 ≤ p
-  pub lists : Lists head next c s
-
-pub linked_start : (n m : ℕ) (c : List ℕ) → Linked (replicate n 0) (replicate m 0) c 0
-linked_start n m c = record { back = λ p. omega (arith, (zeros m).zero p); lists = lists_start (zeros n) }
+pub linked_start : {head next c : List ℕ} → Blank head → Blank next → Linked head next c 0
+linked_start first rest = record { back = λ p. omega (arith, rest.zero p); lists = lists_start first }
 
 pub linked_more : {head next c : List ℕ} {s : ℕ} (a : ℕ) → Linked head next c s → s < length next → a ≡ get_or c s 0 → a < length head
     → Linked (set head a (s + 1)) (set next s (get_or head a 0)) c (s + 1)

@@ -68,6 +68,11 @@ Chain next h (p ∷ ps) = (h ≡ p + 1) × Chain next (get_or next p 0) ps
 pub record Lists (head next corners : List ℕ) (s : ℕ) : Type 0 where
   pub chain : (a : ℕ) → Chain next (get_or head a 0) (corners_at a corners s)
 
+-- after s corners: each link goes back, and the chains have these corners
+pub record Linked (head next corners : List ℕ) (s : ℕ) : Type 0 where
+  pub back : (p : ℕ) → get_or next p 0 ≤ p
+  pub lists : Lists head next corners s
+
 -- ---- stamps
 -- own is written at each of the places bs
 unfoldable pub set_all : ℕ → List ℕ → List ℕ → List ℕ

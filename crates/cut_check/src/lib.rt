@@ -13,7 +13,7 @@ ghost use Rattle.places.specs.Steps.{Blank, Fresh};
 ghost use Rattle.exact.specs.Facing.{doubled};
 ghost use Rattle.cut_check.specs.CutCheck.{not_different, is_cut_of};
 ghost use Rattle.cut_check.specs.Steps.{Paired, PairedAt, after_of, before_of, place_after, place_before, corners_at, CheckedCorners};
-ghost use Rattle.cut_check.specs.Steps.{Chain, Lists, set_all, Took};
+ghost use Rattle.cut_check.specs.Steps.{Chain, Lists, Linked, set_all, Took};
 
 // The corner after s in its triangle, and the one before it.
 fn corner_after(s: usize) -> usize
@@ -47,44 +47,22 @@ fn any_same(corners: &[u32]) -> bool
 
 // The corners of triangles beside a face of n corners, linked in chains: a chain for each place, of the corners at that place. A link is 0
 // where the chain ends, and else 1 more than the number of a corner, which has the next link of its chain.
-// Places stand for links, since there is no heap; nothing copies the arrays.
-#[derive(Drop)]
-struct Chains<'a, const N: usize, const M: usize> {
+// Places stand for links, since there is no heap; the lists are lent, so that no array is copied.
+#[derive(Clone, Copy)]
+struct Chains<'a> {
     n: usize,
     corners: &'a [u32],
-    head: [u16; N],
-    next: [u16; M],
-    ghost places: { (n ≤ N) × (N ≤ most_checked_corners) },
-    ghost room: { (length corners.now ≤ M) × (M ≤ 3 * most_checked_triangles) },
+    head: &'a [u16],
+    next: &'a [u16],
+    ghost places: { (n ≤ length head.now) × (n ≤ most_checked_corners) },
+    ghost room: { (length corners.now ≤ length next.now) × (length corners.now ≤ 3 * most_checked_triangles) },
     ghost threes: { length corners.now % 3 ≡ 0 },
     ghost below: { (s : ℕ) → s < length corners.now → get_or corners.now s 0 < n },
     // Each chain goes on at an earlier corner.
-    ghost back: { (p : ℕ) → get_or next p 0 ≤ p },
+    ghost back: { (p : ℕ) → get_or next.now p 0 ≤ p },
 }
 
-impl<'a, const N: usize, const M: usize> Chains<'a, N, M> {
-    // Each corner becomes the first of the chain of its place.
-    fn new(corners: &'a [u32], n: usize) -> Self
-        requires checked_corners { CheckedCorners n corners.now }
-        requires room { (n ≤ N) × (N ≤ most_checked_corners) × (length corners.now ≤ M) × (M ≤ 3 * most_checked_triangles) }
-        ensures same { (result.n ≡ n) × (result.corners.now ≡ corners.now) }
-        ensures lists { Lists result.head result.next corners.now (length corners.now) }
-    {
-        let mut head = [0; N];
-        let mut next = [0; M];
-        for (s, &place) in corners.iter().enumerate() {
-            let a = place as usize;
-            next[s] = head[a];
-            head[a] = (s + 1) as u16;
-        }
-        Chains {
-            n,
-            corners,
-            head,
-            next,
-        }
-    }
-
+impl Chains<'_> {
     // What stands at the corner after s in its triangle, and at the one before it.
     fn place_after(&self, s: usize) -> usize
         requires { s < length self.now.corners.now }
@@ -104,7 +82,7 @@ impl<'a, const N: usize, const M: usize> Chains<'a, N, M> {
     fn stamp_before(&self, stamp: &mut [u16], first: usize, own: u16)
         requires stamp_len { length stamp.old ≡ self.now.n }
         requires first_within { first ≤ length self.now.corners.now }
-        ensures { (ps : List ℕ) → Chain self.now.next first ps
+        ensures { (ps : List ℕ) → Chain self.now.next.now first ps
             → stamp.new ≡ set_all own (map (place_before self.now.corners.now) ps) stamp.old }
     {
         let mut h = first;
@@ -120,7 +98,7 @@ impl<'a, const N: usize, const M: usize> Chains<'a, N, M> {
     fn take_after(&self, stamp: &mut [u16], first: usize, own: u16) -> bool
         requires stamp_len { length stamp.old ≡ self.now.n }
         requires first_within { first ≤ length self.now.corners.now }
-        ensures { (ps : List ℕ) → Chain self.now.next first ps
+        ensures { (ps : List ℕ) → Chain self.now.next.now first ps
             → Took own (map (place_after self.now.corners.now) ps) stamp.old stamp.new result }
     {
         let mut h = first;
@@ -138,7 +116,7 @@ impl<'a, const N: usize, const M: usize> Chains<'a, N, M> {
     // Whether at the place a, whose chain starts at `first`, each side that leaves goes to another place, from which one comes back. The
     // face, backward, comes from the place after a and goes to the one before it.
     fn paired_at(&self, stamp: &mut [u16], first: usize, a: usize) -> bool
-        requires chain { Chain self.now.next first (corners_at a self.now.corners.now (length self.now.corners.now)) }
+        requires chain { Chain self.now.next.now first (corners_at a self.now.corners.now (length self.now.corners.now)) }
         requires stamp_len { (a < self.now.n) × (length stamp.old ≡ self.now.n) × Fresh (a + 1) stamp.old }
         ensures variant { (result ≡ true) ↔ PairedAt self.now.n (in_threes self.now.corners.now) a }
         ensures fresh { result ≡ true → Fresh (a + 1 + 1) stamp.new }
@@ -155,7 +133,7 @@ impl<'a, const N: usize, const M: usize> Chains<'a, N, M> {
     // Whether at each place every side that leaves goes to another place, from which one comes back. The stamps that a place leaves need no
     // clearing, since each place has one of its own.
     fn paired(&self, stamp: &mut [u16]) -> bool
-        requires lists { Lists self.now.head self.now.next self.now.corners.now (length self.now.corners.now) }
+        requires lists { Lists self.now.head.now self.now.next.now self.now.corners.now (length self.now.corners.now) }
         requires stamp_len { (length stamp.old ≡ self.now.n) × Blank stamp.old }
         ensures { (result ≡ true) ↔ Paired self.now.n (in_threes self.now.corners.now) }
     {
@@ -175,6 +153,20 @@ const CORNERS_OF_64: usize = 3 * 62;
 
 const MOST_TRIANGLE_CORNERS: usize = 3 * places::limits::MOST_CHECKED_TRIANGLES;
 
+// Each corner becomes the first of the chain of its place.
+fn link(head: &mut [u16], next: &mut [u16], corners: &[u32], n: usize)
+    requires checked_corners { CheckedCorners n corners.now }
+    requires room { (n ≤ length head.old) × (length corners.now ≤ length next.old) }
+    requires blank { Blank head.old × Blank next.old }
+    ensures linked { Linked head.new next.new corners.now (length corners.now) }
+{
+    for (s, &place) in corners.iter().enumerate() {
+        let a = place as usize;
+        next[s] = head[a];
+        head[a] = (s + 1) as u16;
+    }
+}
+
 // Whether each side occurs once each way, with lists of its own, which have room for N corners of the face and M of its triangles: a small
 // face does not clear the lists of a large one.
 fn paired_within<const N: usize, const M: usize>(corners: &[u32], n: usize) -> bool
@@ -182,8 +174,16 @@ fn paired_within<const N: usize, const M: usize>(corners: &[u32], n: usize) -> b
     requires room { (n ≤ N) × (N ≤ most_checked_corners) × (length corners.now ≤ M) × (M ≤ 3 * most_checked_triangles) }
     ensures { (result ≡ true) ↔ Paired n (in_threes corners.now) }
 {
-    let chains = Chains::<N, M>::new(corners, n);
+    let mut head = [0u16; N];
+    let mut next = [0u16; M];
     let mut stamp = [0u16; N];
+    link(&mut head, &mut next, corners, n);
+    let chains = Chains {
+        n,
+        corners,
+        head: &head,
+        next: &next,
+    };
     chains.paired(&mut stamp[..n])
 }
 

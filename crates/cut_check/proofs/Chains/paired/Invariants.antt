@@ -5,7 +5,7 @@ use Rattle.cut_check.specs.Steps.{PairedBelow}
 use Rattle.cut_check.proofs.Chains.paired.Given as goal
 
 abbrev pub invariant-loop-a : goal.invariant-loop-a
-invariant-loop-a g l = record {
+invariant-loop-a l = record {
   fresh : Fresh (l.a + 1) l.stamp;
   paired : PairedBelow l.self.n (in_threes l.self.corners.now) l.a;
 }

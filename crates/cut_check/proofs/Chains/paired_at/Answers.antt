@@ -5,28 +5,26 @@ use mathlib.Core.Bool.{false≢true}
 use Prim.Native.Nat.{ℕ}
 use native.Mathlib.Omega.{arith}
 use lib.ListN.{length, length-set}
-use Rattle.std.proofs.Common.{rules}
 use Rattle.places.specs.Ring.{prev_of}
 use Rattle.cut_check.specs.Steps.{corners_at, CheckedCorners}
 use Rattle.cut_check.proofs.Linked.{chain_within}
 use Rattle.cut_check.proofs.Pairing.{Decided, decide, decided_no, decided_last}
-use Rattle.cut_check.proofs.Chains.paired_at.Given.{Over}
 use Rattle.cut_check.proofs.Chains.paired_at.Goals as goal
 use Rattle.cut_check.proofs.Chains.paired_at.Goals.{After-take_after}
 
 pub stamp_before-requires : goal.stamp_before-requires
-stamp_before-requires g c =
-    (search rules, (c.requires.stamp_len.1, chain_within _ _ _ _ _ c.requires.chain))
+stamp_before-requires c =
+    record { stamp_len = c.requires.stamp_len.1; first_within = chain_within _ _ _ _ _ c.requires.chain }
 
 pub take_after-requires : goal.take_after-requires
-take_after-requires g c =
+take_after-requires c =
     let size : length c.stamp_before.new.stamp ≡ c.args.self.now.n = omega arith in
-    (search rules, (rw length-set size, chain_within _ _ _ _ _ c.requires.chain))
+    record { stamp_len = rw length-set size; first_within = chain_within _ _ _ _ _ c.requires.chain }
 
 -- what is left decides, by the stamp of the place before a
-decided : (g : Over) (c : After-take_after g) {p : ℕ} → p ≡ prev_of c.args.a c.args.self.now.n
+decided : (c : After-take_after) {p : ℕ} → p ≡ prev_of c.args.a c.args.self.now.n
     → Decided c.args.self.now.n c.args.self.now.corners.now c.args.a p c.take_after.new.stamp c.take_after.result
-decided g c e =
+decided c e =
     let self = c.args.self.now in
     let corners : CheckedCorners self.n self.corners.now = record {
       threes = self.threes;
@@ -40,15 +38,15 @@ decided g c e =
 
 -- a side that leaves finds no stamp
 pub returns-then-not-take_after : goal.returns-then-not-take_after
-returns-then-not-take_after g c =
+returns-then-not-take_after c =
     record {
-      variant = decided_no (decided g (goal.at.returns-then-not-take_after g c).After-take_after refl) c.if-not-take_after.true;
+      variant = decided_no (decided (goal.at.returns-then-not-take_after c).After-take_after refl) c.if-not-take_after.true;
       fresh = λ z. absurd (false≢true z);
     }
 
 -- each side that leaves finds a stamp, and that of the face is asked for last
 pub returns : goal.returns
-returns g c =
+returns c =
     let found = c.if-not-take_after.false in
-    let face = decided g (goal.at.returns g c).After-take_after c.prev.ensures.0 in
+    let face = decided (goal.at.returns c).After-take_after c.prev.ensures.0 in
     record { variant = decided_last face found; fresh = λ z. face.fresh found }

@@ -7,10 +7,10 @@ use Rattle.cut_check.proofs.Stamps.{write_more, write_end}
 use Rattle.cut_check.proofs.Chains.stamp_before.Goals as goal
 
 pub loop-h-preserved : goal.loop-h-preserved
-loop-h-preserved g c = record {
+loop-h-preserved c = record {
   within = omega (arith, c.args.self.now.back (c.loop-h.h - 1));
   writing = λ ps k. write_more (c.loop-h.invariant.writing ps k) c.loop-h-test.true refl c.place_before-b.ensures;
 }
 
 pub returns : goal.returns
-returns g c ps k = write_end (c.loop-h.invariant.writing ps k) (omega arith)
+returns c ps k = write_end (c.loop-h.invariant.writing ps k) (omega arith)

@@ -7,14 +7,14 @@ use Rattle.cut_check.proofs.Stamps.{take_no, take_more, take_end}
 use Rattle.cut_check.proofs.Chains.take_after.Goals as goal
 
 pub returns-then-stamp-b : goal.returns-then-stamp-b
-returns-then-stamp-b g c ps k =
+returns-then-stamp-b c ps k =
     take_no (c.loop-h.invariant.taking ps k) c.loop-h-test.true c.place_after-b.ensures (λ e. omega (arith, e))
 
 pub loop-h-preserved : goal.loop-h-preserved
-loop-h-preserved g c = record {
+loop-h-preserved c = record {
   within = omega (arith, c.args.self.now.back (c.loop-h.h - 1));
   taking = λ ps k. take_more (c.loop-h.invariant.taking ps k) c.loop-h-test.true refl c.place_after-b.ensures (omega arith);
 }
 
 pub returns : goal.returns
-returns g c ps k = take_end (c.loop-h.invariant.taking ps k) (omega arith)
+returns c ps k = take_end (c.loop-h.invariant.taking ps k) (omega arith)

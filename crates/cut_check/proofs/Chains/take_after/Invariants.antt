@@ -6,11 +6,11 @@ use Rattle.cut_check.proofs.Stamps.{Taking}
 use Rattle.cut_check.proofs.Chains.take_after.Given as goal
 
 abbrev pub invariant-loop-h : goal.invariant-loop-h
-invariant-loop-h g l = record {
+invariant-loop-h l = record {
   within : l.h ≤ length l.self.corners.now;
-  taking : (ps : List ℕ) → Chain l.self.next l.first ps
-      → Taking l.self.next (place_after l.self.corners.now) l.own ps l.initial.stamp l.h l.stamp;
+  taking : (ps : List ℕ) → Chain l.self.next.now l.first ps
+      → Taking l.self.next.now (place_after l.self.corners.now) l.own ps l.initial.stamp l.h l.stamp;
 }
 
 abbrev pub decreases-loop-h : goal.decreases-loop-h
-decreases-loop-h g l = l.h
+decreases-loop-h l = l.h

@@ -28,3 +28,17 @@ Check = Result ⊤ Refusal
 
 abbrev pub no_refusal : Check
 no_refusal = Ok tt
+
+-- the numbers that C and the report's lines have, row by row: whoever gives a row another number loses the proof of this
+pub record Numbered : Type 0 where
+  pub size : number_of Size ≡ 1
+  pub number : number_of Number ≡ 2
+  pub ends : number_of Ends ≡ 3
+  pub index : number_of Index ≡ 4
+  pub empty : number_of EmptyFace ≡ 5
+  pub room : number_of Room ≡ 6
+  pub bad_record : number_of Record ≡ 7
+  pub tail : number_of Tail ≡ 8
+  pub sides : number_of Sides ≡ 11
+  pub choice : number_of Choice ≡ 12
+  pub inexact : number_of Inexact ≡ 15

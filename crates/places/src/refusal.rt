@@ -1,5 +1,6 @@
 // Why a call is refused: the rows of the table of SCOPE 3, each with its number.
-ghost use Rattle.places.specs.Refusals.{NumberOf};
+ghost use Rattle.std.specs.Prelude.{◌≡◌};
+ghost use Rattle.places.specs.Refusals.{number_of, NumberOf};
 
 // A row of the table by its name.
 #[derive(Clone, Copy, Debug, PartialEq, Eq)]
@@ -17,13 +18,13 @@ pub enum Refusal {
     Inexact,
 }
 
-// The row's number, as C and the report's lines have it.
-// Ruled out: a number that the table has not; a row's place in the list for its number.
-impl From<Refusal> for u8 {
-    ghost from_gives = { NumberOf };
-
-    fn from(why: Refusal) -> u8 {
-        match why {
+impl Refusal {
+    // The row's number, as C and the report's lines have it. A method, so that a caller of `geometry` needs no other crate to read it.
+    // Ruled out: a number that the table has not; a row's place in the list for its number.
+    pub fn number(self) -> u8
+        ensures { result ≡ number_of self }
+    {
+        match self {
             Refusal::Size => 1,
             Refusal::Number => 2,
             Refusal::Ends => 3,
@@ -36,5 +37,13 @@ impl From<Refusal> for u8 {
             Refusal::Choice => 12,
             Refusal::Inexact => 15,
         }
+    }
+}
+
+impl From<Refusal> for u8 {
+    ghost from_gives = { NumberOf };
+
+    fn from(why: Refusal) -> u8 {
+        why.number()
     }
 }

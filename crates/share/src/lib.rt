@@ -4,7 +4,7 @@
 ghost use Rattle.std.specs.Prelude.{◌≡◌};
 ghost use Rattle.share.specs.Share.{share_answer};
 
-use places::refusal::Refusal;
+use geometry::Refusal;
 
 // The volume that two convex cells share, over the volume of the first, as f64 divides; a first cell of no volume gives NaN or an infinity.
 // Ruled out: the second cell's volume in its place; the volume over the overlap; the refusal of `volume` told before the overlap's; a share

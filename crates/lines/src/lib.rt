@@ -2,12 +2,10 @@
 #![tactic(auto)]
 
 ghost use Rattle.std.specs.Prelude.{◌≡◌, ◌∷◌, [], ◌++◌, ◌+◌, ◌≤◌, ◌<◌, length};
-ghost use Rattle.places.specs.Refusals.{number_of};
 ghost use Rattle.lines.specs.Text.{Put, decimal_of, digit_of, yes_or_no, hex_of};
 ghost use Rattle.lines.specs.Lines.{refused_line, tail_line, counts_text, shape_text, findings_text, cell_line};
 
 use geometry::Findings;
-use places::refusal::Refusal;
 
 fn put_byte(out: &mut [u8], at: usize, b: u8) -> usize
     requires { at < length out.old }
@@ -84,15 +82,14 @@ fn put_yes_or_no(out: &mut [u8], at: usize, yes: bool) -> usize
     put_text(out, at, b"no")
 }
 
-// The line of a refused cell. No line is longer than 256 bytes.
-pub fn put_refused(out: &mut [u8], at: usize, number: u64, why: Refusal) -> usize
+// The line of a refused cell, with the number of the refusal. No line is longer than 256 bytes.
+pub fn put_refused(out: &mut [u8], at: usize, number: u64, why: u8) -> usize
     requires { at + 256 ≤ length out.old }
-    ensures put { Put out.old at (refused_line number (number_of why)) out.new result }
+    ensures put { Put out.old at (refused_line number why) out.new result }
     ensures upper_bound { result ≤ at + 256 }
 {
     let p1 = put_field(out, at, b"cell ", number);
-    let row = u8::from(why);
-    let p2 = put_field(out, p1, b" refused ", u64::from(row));
+    let p2 = put_field(out, p1, b" refused ", u64::from(why));
     put_byte(out, p2, 10)
 }
 

@@ -46,10 +46,10 @@ pub fn put_line(
     ensures upper_bound { result ≤ at + 256 }
 {
     if let Some(why) = t.refusal {
-        return lines::put_refused(out, at, t.number, why);
+        return lines::put_refused(out, at, t.number, why.number());
     }
     match found(t, coords, corners, ends, queries) {
         Ok(s) => lines::put_cell(out, at, t.number, t.verts, t.faces, s),
-        Err(why) => lines::put_refused(out, at, t.number, why),
+        Err(why) => lines::put_refused(out, at, t.number, why.number()),
     }
 }

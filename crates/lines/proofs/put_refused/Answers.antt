@@ -1,5 +1,4 @@
--- `lines::put_refused` meets its contract: two fields and a line feed are put one behind the other, and what is put of the
--- refusal is its number.
+-- `lines::put_refused` meets its contract: two fields and a line feed are put one behind the other.
 use Rattle.lines.specs.Lines.{refused_line}
 use Rattle.lines.proofs.Writing.{then}
 use Rattle.lines.proofs.put_refused.Goals as goal
@@ -7,4 +6,4 @@ use Rattle.lines.proofs.put_refused.Goals as goal
 pub returns-clause-put : goal.returns-clause-put
 unfolding refused_line
 returns-clause-put c =
-    then (then c.put_field-p1.ensures.put (rw (c.from.ensures, c.from-row.ensures) at c.put_field-p2.ensures.put)) c.put_byte.ensures
+    then (then c.put_field-p1.ensures.put (rw c.from.ensures at c.put_field-p2.ensures.put)) c.put_byte.ensures

@@ -8,7 +8,7 @@ use Rattle.report.proofs.line.put_line.Goals as goal
 pub returns-in-Some-clause-put : goal.returns-in-Some-clause-put
 returns-in-Some-clause-put c =
     let held = held_of c.args.t c.args.coords.now c.args.corners.now c.args.ends.now c.args.queries.now in
-    line_refused held c.in-Some.is c.put_refused.ensures.put
+    line_refused held c.in-Some.is (rw c.number.ensures at c.put_refused.ensures.put)
 
 pub returns-in-Ok-clause-put : goal.returns-in-Ok-clause-put
 returns-in-Ok-clause-put c =
@@ -18,4 +18,5 @@ returns-in-Ok-clause-put c =
 pub returns-in-Err-clause-put : goal.returns-in-Err-clause-put
 returns-in-Err-clause-put c =
     let held = held_of c.args.t c.args.coords.now c.args.corners.now c.args.ends.now c.args.queries.now in
-    line_found held c.found.result (Err c.in-Err.why) c.in_default.is c.found.ensures c.in-Err.is c.put_refused-in-Err.ensures.put
+    line_found held c.found.result (Err c.in-Err.why) c.in_default.is c.found.ensures c.in-Err.is
+    (rw c.number-in-Err.ensures at c.put_refused-in-Err.ensures.put)

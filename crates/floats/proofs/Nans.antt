@@ -1,12 +1,13 @@
--- The NaN: what `is_nan` says of x, how code writes one, which patterns are one's, and what comes of one: every sum, difference and product
--- with it is a NaN, and no comparison with it holds.
+-- The NaN: what `is_nan` and the test `x != x` say of x, how code writes one, which patterns are one's, and what comes of one: every sum,
+-- difference and product with it is a NaN, and no comparison with it holds.
 use mathlib.Core.Path.{◌≡◌, refl, sym, ◌∙◌, subst}
 use mathlib.Core.Bool.{Bool, true, false, not}
 use Prim.Native.Nat.{ℕ, ◌%◌, ◌^◌, ◌<◌, ◌≤◌}
 use lib.Dec.{T}
 use borrow.Author.Tests.{lt-ltb, le-ltb}
-use lib.Ieee.{Float, nan, inf, fin, Format, binary64, neg, add, sub, mul, lt, eq, le, is_nan, of_bits, to_bits, nan_bits}
+use lib.Ieee.{Float, nan, inf, fin, Format, binary64, neg, add, sub, mul, div, lt, eq, le, ne, is_nan, of_bits, to_bits, nan_bits}
 use lib.Ieee.Bits.{nan_bits_is, nan_bits_above}
+use lib.Ieee.Compare.{differs_from_itself, nan_differs}
 
 -- ---- a flag as a fact
 pub holds : {b : Bool} → b ≡ true → T b
@@ -28,6 +29,24 @@ no_nan x h = fails h
 pub written : of_bits binary64 0x7ff8_0000_0000_0000 ≡ nan
 unfolding of_bits
 written = refl
+
+-- ---- the test `x != x`, and the quotient of two zeros
+pub differs_nan : (x : Float) → ne x x ≡ true → x ≡ nan
+differs_nan x h = differs_from_itself x (holds h)
+
+pub no_number : (x : Float) → ne x x ≡ true → is_nan x ≡ true
+unfolding is_nan
+no_number x h = rw (differs_nan x h)
+
+pub is_number : (x : Float) → ne x x ≡ false → is_nan x ≡ false
+unfolding is_nan
+is_number nan h = absurd (subst T (sym nan_differs ∙ h) tt)
+is_number (inf s) h = refl
+is_number (fin s m e) h = refl
+
+pub quotient : div binary64 (of_bits binary64 0) (of_bits binary64 0) ≡ nan
+unfolding div of_bits
+quotient = refl
 
 -- ---- patterns
 pub nan_pattern : (x : Float) → is_nan x ≡ true → 0x7ff8_0000_0000_0000 ≡ to_bits binary64 x

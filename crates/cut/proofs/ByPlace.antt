@@ -159,16 +159,18 @@ corners_long coords face inside = record { holds = go }
         let g : k < length face = omega (arith, length_corners (vertices_of coords) face) in
         rw (corner_at (vertices_of coords) face k g) (vertex_long coords (get_or face k 0) (inside.holds k g))
 
-module _ {points : List Point} {ps : List Float} {ks : List ℕ} (coords : List Float) (face : List ℕ)
-    (inside : Inside (vertices_of coords) face) (p : points ≡ corners_of (vertices_of coords) face)
-    (f : ps ≡ flat_map (λ p. p) points) (k : ks ≡ places_below (length face)) where
-  copied : vertices_of ps ≡ corners_of (vertices_of coords) face
-  copied = rw (f, flat_joined points, p) (threes_joined (corners_of (vertices_of coords) face) (corners_long coords face inside))
+-- so the numbers of the corners' points, laid down one point after the other, are read as these points
+pub copied : {points : List Point} {ps : List Float} (coords : List Float) (face : List ℕ) → Inside (vertices_of coords) face
+    → points ≡ corners_of (vertices_of coords) face → ps ≡ flat_map (λ p. p) points
+    → vertices_of ps ≡ corners_of (vertices_of coords) face
+copied {points} coords face inside p f =
+    rw (f, flat_joined points, p) (threes_joined (corners_of (vertices_of coords) face) (corners_long coords face inside))
 
-  pub copied_inside : Inside (vertices_of ps) ks
-  copied_inside = rw (copied, k) (places_inside (vertices_of coords) face)
+module _ {ps : List Point} {ks : List ℕ} {n : ℕ} (vs : List Point) (face : List ℕ) (p : ps ≡ corners_of vs face) (k : ks ≡ places_below n)
+    (many : n ≡ length face) where
+  pub copied_inside : Inside ps ks
+  copied_inside = rw (p, k, many) (places_inside vs face)
 
-  pub copied_shown : {r : Counts} {out out' : List (List ℕ)} → Shown (cut_of (vertices_of ps) ks) r out out'
-      → Shown (cut_by_place (vertices_of coords) face) r out out'
+  pub copied_shown : {r : Counts} {out out' : List (List ℕ)} → Shown (cut_of ps ks) r out out' → Shown (cut_by_place vs face) r out out'
   unfolding cut_by_place
-  copied_shown s = rw (← copied, ← k) s
+  copied_shown s = rw (← p, ← many, ← k) s

@@ -69,6 +69,11 @@ linked_more {head} {next} {c} {s} a k h e g = record {
         (rw (get_or-set_same head a (suc s) 0 g, eq-eqb (get_or c s 0) a (sym e)) top)
     go i (no n) = rw (get_or-set_other head a i (suc s) 0 n, ne_eqb (get_or c s 0) i (λ z. n (sym z ∙ sym e))) (kept i)
 
+-- the chains alone, where each link goes back
+pub lists_more : {head next c : List ℕ} {s : ℕ} (a : ℕ) → ((p : ℕ) → get_or next p 0 ≤ p) → Lists head next c s → s < length next
+    → a ≡ get_or c s 0 → a < length head → Lists (set head a (s + 1)) (set next s (get_or head a 0)) c (s + 1)
+lists_more a back t h e g = (linked_more a (record { back = back; lists = t }) h e g).lists
+
 -- a link that was read among those of the first n places
 pub record Among (head : List ℕ) (n a : ℕ) : Type 0 where
   pub below : a < n

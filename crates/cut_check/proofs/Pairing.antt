@@ -4,9 +4,9 @@
 use mathlib.Core.Path.{◌≡◌, refl, sym, ◌∙◌}
 use mathlib.Core.Logic.Iff
 use mathlib.Core.Logic.{◌↔◌, ◌≢◌, by_cases}
-use mathlib.Core.Bool.{Bool, true, false, ◌&&◌, cond}
+use mathlib.Core.Bool.{Bool, true, false, false≢true, ◌&&◌, cond}
 use mathlib.Core.List.{List, [], ◌∷◌, ◌++◌, map}
-use Prim.Native.Nat.{ℕ, zero, suc, ◌+◌, ◌<◌}
+use Prim.Native.Nat.{ℕ, zero, suc, ◌+◌, ◌<◌, ◌≤◌}
 use native.Mathlib.Decide.{ℕ_discrete}
 use native.Mathlib.Omega.{arith}
 use lib.Dec.{eqb, ltb}
@@ -20,7 +20,7 @@ use Rattle.places.proofs.Lists.{each_nil, each_cons, each_append}
 use Rattle.places.proofs.Rings.{next_below, prev_below, next_prev, prev_next}
 use Rattle.places.proofs.Stamps.{fresh_more}
 use Rattle.cut_check.specs.CutCheck.{face_side}
-use Rattle.cut_check.specs.Steps.{runs_beside, PairedAt, PairedBelow, place_after, place_before, corners_at, times}
+use Rattle.cut_check.specs.Steps.{runs_beside, PairedAt, PairedBelow, Paired, place_after, place_before, corners_at, times}
 use Rattle.cut_check.specs.Steps.{CheckedCorners, set_all, taken, Took}
 use Rattle.cut_check.proofs.Corners.{after_place, before_place, times_last, runs_after, runs_before}
 use Rattle.cut_check.proofs.Stamps.{length_all, all_last, fresh_all, stamped_where, taken_last, taken_is}
@@ -151,5 +151,15 @@ module _ {n : ℕ} {c : List ℕ} (k : CheckedCorners n c) {a : ℕ} (h : a < n)
 
 -- ---- all places
 module _ {n : ℕ} {ts : List (List ℕ)} where
+  pub below_none : PairedBelow n ts 0
+  below_none = record { paired = λ i h. absurd (omega arith) }
+
   pub below_more : {a : ℕ} → PairedBelow n ts a → PairedAt n ts a → PairedBelow n ts (a + 1)
   below_more {a} b p = record { paired = λ i h. by_cases (ℕ_discrete i a) (λ e. rw e p) (λ e. b.paired i (omega arith)) }
+
+  pub below_all : {a : ℕ} → PairedBelow n ts a → n ≤ a → (true ≡ true) ↔ Paired n ts
+  below_all b h = (λ e. record { paired = λ i g. b.paired i (omega arith) }, λ p. refl)
+
+  -- a place that is not paired
+  pub not_paired : {a : ℕ} {r : Bool} → a < n → (r ≡ true) ↔ PairedAt n ts a → r ≡ false → (false ≡ true) ↔ Paired n ts
+  not_paired {a} h i e = (λ z. absurd (false≢true z), λ p. sym e ∙ i.1 (p.paired a h))

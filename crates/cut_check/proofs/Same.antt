@@ -31,6 +31,12 @@ doubled_three a b c = go (eqb a b) (eqb a c) (eqb b c)
     go false false true = refl
     go false false false = refl
 
+-- whether the triangle t, whose places are x, y and z, has a place twice
+pub not_different_at : {t x y z : ℕ} {r s : Bool} (c : List ℕ) → t < length c / 3 → x ≡ get_or c (t * 3) 0 → y ≡ get_or c (t * 3 + 1) 0
+    → z ≡ get_or c (t * 3 + 2) 0 → r ≡ doubled (x ∷ y ∷ z ∷ []) → r ≡ s → not_different (get_or (in_threes c) t []) ≡ s
+unfolding not_different
+not_different_at {t} {x} {y} {z} c h ex ey ez e q = rw (threes_at c t 0 h, ← ex, ← ey, ← ez, ← e) q
+
 -- the three places of a chunk
 abbrev pub triple : List ℕ → List ℕ
 triple x = get_or x 0 0 ∷ get_or x 1 0 ∷ get_or x 2 0 ∷ []

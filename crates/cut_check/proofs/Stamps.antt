@@ -8,17 +8,28 @@ use Prim.Native.Nat.{ℕ, ◌+◌, ◌-◌, ◌<◌, ◌≤◌}
 use native.Mathlib.Decide.{ℕ_discrete, dec_lt}
 use native.Mathlib.Omega.{arith}
 use lib.Dec.{eqb, ltb}
-use lib.ListN.{length, get_or, set, length-set}
+use lib.ListN.{length, get_or, set, take, replicate, length-set}
 use lib.Seq.{get_or-set_same, get_or-set_other}
 use borrow.Author.Tests.{eq-eqb, ne_eqb, lt-ltb, le-ltb}
 use Rattle.places.specs.Lists.{Each}
 use Rattle.places.specs.Loops.{one_if, count_of}
-use Rattle.places.specs.Steps.{Fresh}
-use Rattle.places.proofs.Lists.{each_head, each_tail}
+use Rattle.places.specs.Steps.{Blank, Fresh}
+use Rattle.places.proofs.Lists.{first_of, each_head, each_tail}
 use Rattle.places.proofs.Loops.{one_at_most}
-use Rattle.places.proofs.Stamps.{fresh_set}
-use Rattle.cut_check.specs.Steps.{times, set_all, taken, Took}
+use Rattle.places.proofs.Stamps.{blank_part, fresh_set}
+use Rattle.cut_check.specs.Steps.{times, Chain, set_all, taken, Took}
 use Rattle.cut_check.proofs.Linked.{Along, along_at, along_more, along_end}
+
+-- ---- lists of zeros
+-- the first n and m places of arrays of zeros: how many they are, and that they are zeros
+pub lists_lent : (n m k j : ℕ) → n ≤ k → m ≤ j →
+    let one : List ℕ = take n (replicate k 0) in
+    let other : List ℕ = take m (replicate j 0) in
+    ((length one ≡ n) × (length one ≡ n) × (length other ≡ m)) × (Blank one × Blank one × Blank other)
+lists_lent n m k j h g =
+    let one = sym (first_of {A = ℕ} n k 0 h) in
+    let other = sym (first_of {A = ℕ} m j 0 g) in
+    ((one, one, other), (blank_part n k, blank_part n k, blank_part m j))
 
 -- ---- what is written
 pub length_all : (own : ℕ) (bs stamp : List ℕ) → length (set_all own bs stamp) ≡ length stamp
@@ -124,6 +135,9 @@ pub record Writing (next : List ℕ) (f : ℕ → ℕ) (own : ℕ) (ps stamp₀ 
   pub going : Along next h (λ l. set_all own (map f l) stamp ≡ set_all own (map f ps) stamp₀)
 
 module _ {next : List ℕ} {f : ℕ → ℕ} {own : ℕ} {ps stamp₀ : List ℕ} where
+  pub write_start : {h : ℕ} → Chain next h ps → Writing next f own ps stamp₀ h stamp₀
+  write_start {h} k = record { going = record { left = ps; chain = k; so = refl } }
+
   module _ {h : ℕ} {stamp : List ℕ} (w : Writing next f own ps stamp₀ h stamp) where
     pub write_more : {h' b : ℕ} → 0 < h → h' ≡ get_or next (h - 1) 0 → b ≡ f (h - 1) → Writing next f own ps stamp₀ h' (set stamp b own)
     unfolding set_all
@@ -139,6 +153,9 @@ pub record Taking (next : List ℕ) (f : ℕ → ℕ) (own : ℕ) (ps stamp₀ :
       (λ l. (taken own (map f l) stamp ≡ taken own (map f ps) stamp₀) × (set_all 0 (map f l) stamp ≡ set_all 0 (map f ps) stamp₀))
 
 module _ {next : List ℕ} {f : ℕ → ℕ} {own : ℕ} {ps stamp₀ : List ℕ} where
+  pub take_start : {h : ℕ} → Chain next h ps → Taking next f own ps stamp₀ h stamp₀
+  take_start {h} k = record { going = record { left = ps; chain = k; so = (refl, refl) } }
+
   module _ {h : ℕ} {stamp : List ℕ} (t : Taking next f own ps stamp₀ h stamp) where
     -- a place that has not the stamp
     pub take_no : {b : ℕ} {stamp' : List ℕ} → 0 < h → b ≡ f (h - 1) → get_or stamp b 0 ≢ own → Took own (map f ps) stamp₀ stamp' false

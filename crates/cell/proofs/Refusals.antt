@@ -118,15 +118,15 @@ module _ (coords : List Float) where
   unfolding points_refused
   points_is n e = rw (e, length_threes coords)
 
-  not_in_threes : (length coords % 3 ≡ 0 → ⊥) → true ≡ points_refused coords
+  pub not_in_threes : (length coords % 3 ≡ 0 → ⊥) → true ≡ points_refused coords
   unfolding points_refused
   not_in_threes h = rw (ne_eqb (length coords % 3) 0 h)
 
   -- in threes: none, or as many as they are
-  no_vertex : length coords ≡ 0 → true ≡ points_refused coords
+  pub no_vertex : length coords ≡ 0 → true ≡ points_refused coords
   no_vertex h = rw (points_is 0 (sym h))
 
-  some_vertices : length coords % 3 ≡ 0 → (length coords ≡ 0 → ⊥) → ltb 768 (length coords) ≡ points_refused coords
+  pub some_vertices : length coords % 3 ≡ 0 → (length coords ≡ 0 → ⊥) → ltb 768 (length coords) ≡ points_refused coords
   some_vertices e h = go (ltb 768 (length coords)) refl
     where
       go : (b : Bool) → ltb 768 (length coords) ≡ b → b ≡ points_refused coords

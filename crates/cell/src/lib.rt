@@ -10,7 +10,7 @@ ghost use Rattle.cell.specs.Steps.{Sound};
 
 use places::refusal::Refusal;
 
-// A cell that is not refused: its lists, with what is known of them beside.
+// The lists of a cell past the check, or of a fixed shape, with what is known of them beside: `Sound`, which says nothing of the numbers.
 #[derive(Clone, Copy)]
 pub struct SoundCell<'a> {
     pub coords: &'a [f64],

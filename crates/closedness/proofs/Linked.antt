@@ -6,8 +6,8 @@ use mathlib.Core.List.{List, [], ◌∷◌}
 use Prim.Native.Nat.{ℕ, ◌+◌, ◌-◌, ◌<◌, ◌≤◌, min}
 use native.Mathlib.Decide.{ℕ_discrete, dec_lt}
 use native.Mathlib.Omega.{arith}
-use lib.Dec.{T}
-use lib.ListN.{length, get_or, set, replicate}
+use lib.Dec.{T, eqb→eq}
+use lib.ListN.{length, get_or, set, drop, drop_of_length-le, replicate}
 use lib.Seq.{slice, length-slice, get_or-set_same, get_or-set_other}
 use borrow.Author.Tests.{lt-ltb, le-ltb, eq-eqb, ne_eqb}
 use Rattle.places.specs.Ring.{next_of}
@@ -67,6 +67,16 @@ module _ {head next other : List ℕ} {s m y : ℕ} (first : (i : ℕ) → get_o
       there : (i : ℕ) → i ≢ m → codes_at i (push a b l) ≡ codes_at i l
       there i e = rw (ne_eqb a b n, ne_eqb (lower_of a b) i (λ z. e (sym (p ∙ z))))
 
+-- one from a vertex to itself is in no chain
+pub lists_none : {head next other : List ℕ} (a b : ℕ) (l : List (ℕ × ℕ)) → a ≡ b → Lists head next other l
+    → Lists head next other (push a b l)
+lists_none {head} {next} {other} a b l e t = record {
+  chain = λ m g. subst (Chain next other (get_or head m 0)) (sym (none m)) (t.chain m g);
+}
+  where
+    none : (m : ℕ) → codes_at m (push a b l) ≡ codes_at m l
+    none m = rw (eq-eqb a b e)
+
 -- ---- the sides of a face: those before place i are there
 pub record FaceLinked (Holds : List (ℕ × ℕ) → Type 0) (face : List ℕ) (l : List (ℕ × ℕ)) (i : ℕ) : Type 0 where
   pub so_far : List (ℕ × ℕ)
@@ -115,9 +125,13 @@ module _ {Held : List (ℕ × ℕ) → Type 0} {c es : List ℕ} {l : List (ℕ 
 pub face_length : {face : List ℕ} (p e : ℕ) (c : List ℕ) → face ≡ slice p e c → p ≤ e → e ≤ length c → p + length face ≡ e
 face_length p e c q a b = rw q (omega (arith, length-slice p e c b))
 
+-- after the last face the end before the next is the number of the corners
+pub all_read : (p : ℕ) (es : List ℕ) (n k : ℕ) → length es ≤ k → T (rises p (drop k es) n) → p ≡ n
+all_read p es n k h t = eqb→eq p n (rw (drop_of_length-le es h) at t)
+
 -- ---- before the first side
-pub lists_start : (n : ℕ) → Lists (replicate 256 0) (replicate n 0) (replicate n 0) []
-lists_start n = record { chain = λ m g. none m }
+pub lists_start : {next other : List ℕ} → Lists (replicate 256 0) next other []
+lists_start = record { chain = λ m g. none m }
   where
     none : (m : ℕ) → ◌≡◌ {A = ℕ} (get_or (replicate 256 0) m 0) 0
     none m = omega (arith, (zeros 256).zero m)

@@ -1,7 +1,7 @@
 -- The tally along a chain, for `tally_chain`, and over all chains, for `is_even`: what is left of the chain makes, with the tally, the
 -- whole; and after a chain whose gap is 0 the vertex has as many sides up as down to each other vertex.
 use mathlib.Core.Path.{◌≡◌, refl, sym, ◌∙◌}
-use mathlib.Core.Bool.{false}
+use mathlib.Core.Bool.{true, false}
 use mathlib.Core.List.{List, [], ◌∷◌}
 use Prim.Native.Nat.{ℕ, ◌+◌, ◌*◌, ◌-◌, ◌<◌, ◌≤◌}
 use native.Mathlib.Decide.{ℕ_discrete}
@@ -14,7 +14,7 @@ use Rattle.std.proofs.lemmas.List.{get_or-take, length-take}
 use Rattle.places.specs.Loops.{one_if}
 use Rattle.places.specs.Steps.{Blank}
 use Rattle.places.proofs.Loops.{one_at_most}
-use Rattle.closedness.specs.Steps.{codes_at, times, Chain, Lists, gap_of, Raised, Tallied, Uneven, Even}
+use Rattle.closedness.specs.Steps.{codes_at, times, Chain, Lists, gap_of, Room, Raised, Tallied, Uneven, Even}
 use Rattle.closedness.proofs.Gap.{gap_zero, gap_none, gap_some}
 
 -- one more at k
@@ -38,6 +38,9 @@ rising_more {n} {h} {h'} {c} {t₀} {t} {t'} r g d e =
       size = rw e (length-set t c (get_or t c 0 + 1) ∙ r.size);
       most = λ j. rw e (omega (arith, r.most j, more_at t c j within, one_at_most (eqb c j)));
     }
+
+pub rising_end : {n h : ℕ} {t₀ t : List ℕ} → Rising n t₀ h t → Raised n t₀ t
+rising_end r = record { size = r.size; most = λ c. omega (arith, r.most c) }
 
 -- ---- what is left of a chain with the codes cs, from h on, makes with the tally t the whole
 pub record Rest (next other : List ℕ) (h : ℕ) (cs t₀ t : List ℕ) : Type 0 where
@@ -72,6 +75,9 @@ module _ {next other : List ℕ} {h : ℕ} {cs t₀ t : List ℕ} where
       go [] k s = record { counts = λ j b. omega (arith, s j b) }
       go (x ∷ l) k s = let above : 0 < h = k.0 in absurd (omega arith)
 
+pub rest_start : {next other cs t : List ℕ} {h : ℕ} → Chain next other h cs → Rest next other h cs t t
+rest_start {next} {other} {cs} {t} {h} k = record { left = cs; chain = k; so = λ c b. refl }
+
 -- ---- after the chains of the vertices below m no entry is higher than they allow, and there is no gap
 pub record Level (m : ℕ) (t : List ℕ) : Type 0 where
   pub size : length t ≡ 512
@@ -84,6 +90,9 @@ EvenBelow m l = (i j : ℕ) → i < m → j < 256 → times j (codes_at i l) ≡
 
 pub level_start : {t : List ℕ} → length t ≡ 512 → Blank t → Level 0 t
 level_start {t} w z = record { size = w; most = λ c. omega (arith, z.zero c); no_gap = gap_none 256 t z.zero }
+
+pub level_room : {m n : ℕ} {t : List ℕ} → Level m t → m < 256 → n ≤ 2048 → Room n t
+level_room r h g = record { size = r.size; spare = λ c. omega (arith, r.most c) }
 
 pub level_more : {m n : ℕ} {t t' : List ℕ} → Level m t → n ≤ 2048 → Raised n t t' → gap_of t' ≡ 0 → Level (m + 1) t'
 level_more r g d e = record { size = d.size; most = λ c. omega (arith, r.most c, d.most c); no_gap = e }
@@ -126,3 +135,6 @@ module _ (m : ℕ) (l : List (ℕ × ℕ)) {t t' : List ℕ} (z : gap_of t ≡ 0
 -- the answer
 pub even_no : {v : ℕ} {l : List (ℕ × ℕ)} → Uneven l → Even v l false
 even_no u = record { yes = λ e m j h g. absurd (let z : ◌≡◌ {A = ℕ} 0 1 = cc in omega arith); no = λ e. u }
+
+pub even_yes : {v m : ℕ} (l : List (ℕ × ℕ)) → EvenBelow m l → v ≤ m → Even v l true
+even_yes l t h = record { yes = λ e i j b g. t i j (omega arith) g; no = λ e. absurd (let z : ◌≡◌ {A = ℕ} 0 1 = cc in omega arith) }

@@ -32,6 +32,14 @@ unreached_all : (t : List ℕ) → ((k : ℕ) → get_or t k 0 ≡ 0) → unreac
 unreached_all [] z = refl
 unreached_all (x ∷ t) z = rw (eq-eqb x 0 (z 0)) (omega (arith, unreached_all t (λ k. z (suc k))))
 
+-- where all before f are reached, and f is, all before f + 1 are
+pub reached_next : (t : List ℕ) (f : ℕ) → ((m : ℕ) → m < f → 0 < get_or t m 0) → 0 < get_or t f 0 → (m : ℕ) → m < f + 1 → 0 < get_or t m 0
+reached_next t f h g m b = go (ℕ_discrete m f)
+  where
+    go : Dec (m ≡ f) → 0 < get_or t m 0
+    go (yes e) = rw e g
+    go (no n) = h m (omega arith)
+
 -- past the last face none is reached
 pub reached_below : (t : List ℕ) (f : ℕ) → 0 < get_or t f 0 → f < length t
 reached_below t f h = go (dec_lt f (length t))

@@ -1,13 +1,14 @@
 -- Faces in one list with marks: what stands before the first mark is a face, and the rest of the list has the other faces, so that the loop
 -- of `point_in_phed`, which splits the list at its marks, takes in one face after the other.
 use mathlib.Core.Path.{◌≡◌, sym, ◌∙◌, subst}
-use mathlib.Core.Bool.{Bool, true, false, true≢false}
+use mathlib.Core.Logic.{◌≢◌}
+use mathlib.Core.Bool.{Bool, true, false, true≢false, cond}
 use mathlib.Core.List.{List, [], ◌∷◌, ◌++◌, append-nil, append_assoc}
-use Prim.Native.Nat.{ℕ, suc, zero-le}
+use Prim.Native.Nat.{ℕ, suc, ◌+◌, ◌<◌, ◌≤◌, zero-le}
 use native.Mathlib.Omega.{arith}
 use lib.Dec.{eqb}
-use lib.ListN.{length, length-append}
-use borrow.Author.Tests.{eqb-false}
+use lib.ListN.{length, get_or, drop, length-append, drop_of_length-le, length-drop}
+use borrow.Author.Tests.{eq-eqb, ne_eqb, eqb-false}
 use Rattle.std.proofs.Common.{Bor, Some}
 use Rattle.std.specs.Bool.{MatchBool}
 use Rattle.std.specs.Fn.{ComputesKey, Mut}
@@ -16,6 +17,7 @@ use Rattle.std.specs.Slice.Iter.{split_rest, split_done, split_callee, split_ste
 use Rattle.std.specs.declared.slice.Split.{Split}
 use Rattle.places.specs.Lists.{Each}
 use Rattle.places.specs.Loops.{fold_list}
+use Rattle.places.proofs.Loops.{drop_more}
 use Rattle.places.proofs.Lists.{each_nil, each_cons, each_head, each_tail}
 use Rattle.flat.specs.Points.{Point}
 use Rattle.flat.specs.Steps.{Inside}
@@ -123,3 +125,35 @@ module _ {vs : List Point} {p : Point} {it : Split ℕ (Unit {0})} where
           more = λ e. rw h (rw (q.more e) at before);
           done = λ e. rw h (rw (q.only e) at before);
         }
+
+-- ---- how many corners stand before the first mark
+unfoldable pub before_mark : List ℕ → ℕ
+before_mark [] = 0
+before_mark (c ∷ cs) = cond (eqb c face_end) 0 (suc (before_mark cs))
+
+-- from place i on
+module _ (cs : List ℕ) (i : ℕ) where
+  pub before_mark_lem : i < length cs → get_or cs i 0 ≡ face_end → before_mark (drop i cs) ≡ 0
+  unfolding before_mark
+  before_mark_lem h q = rw (drop_more cs i 0 h, eq-eqb (get_or cs i 0) face_end q)
+
+  pub before_corner : i < length cs → get_or cs i 0 ≢ face_end → before_mark (drop i cs) ≡ suc (before_mark (drop (i + 1) cs))
+  unfolding before_mark
+  before_corner h q = rw (drop_more cs i 0 h, ne_eqb (get_or cs i 0) face_end q)
+
+  pub before_none : length cs ≤ i → before_mark (drop i cs) ≡ 0
+  unfolding before_mark
+  before_none h = rw (drop_of_length-le cs h)
+
+before_below : (l : List ℕ) → before_mark l ≤ length l
+unfolding before_mark
+before_below [] = omega arith
+before_below (c ∷ cs) = go (eqb c face_end) (before_below cs)
+  where
+    go : (b : Bool) → before_mark cs ≤ length cs → cond b 0 (suc (before_mark cs)) ≤ suc (length cs)
+    go true h = omega arith
+    go false h = omega arith
+
+-- the face from place s on ends in the list
+pub end_within : (cs : List ℕ) (s : ℕ) → s ≤ length cs → s + before_mark (drop s cs) ≤ length cs
+end_within cs s h = omega (arith, before_below (drop s cs), length-drop s cs)

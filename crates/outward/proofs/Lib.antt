@@ -1,4 +1,5 @@
 pub mod Parting
+pub mod Seeing
 pub mod Stretches
 pub mod Outward
 pub mod Computed

@@ -8,15 +8,17 @@ use lib.ListN.{length, replicate, length-replicate}
 use lib.Ieee.{Float, of_bits, neg, le}
 use Rattle.places.specs.Refusals.{no_refusal}
 use Rattle.places.specs.Loops.{any_of}
+use Rattle.places.specs.Lists.{Each}
 use Rattle.places.specs.Stored.{in_threes}
 use Rattle.places.proofs.Stored.{length_threes}
 use Rattle.floats.specs.F64.{zero64}
 use Rattle.exact.specs.Sides.{closed_of}
-use Rattle.flat.specs.Points.{vertices_of}
+use Rattle.flat.specs.Points.{Point, vertices_of}
+use Rattle.flat.specs.Steps.{Inside}
 use Rattle.cell.specs.Refusals.{first_row, out_of_range, points_refused, size_refused}
 use Rattle.cell.specs.Refusals.{number_refused, ends_refused, index_refused, refusal_of}
 use Rattle.cell.specs.Steps.{Sound}
-use Rattle.cell.proofs.Refusals.{sound}
+use Rattle.cell.proofs.Refusals.{sound, any_none, all_below}
 use Rattle.shapes.specs.Tables.{tet4_faces, wedge6_tet, wedge6_tri_faces, wedge6_quad_faces, hex8_faces, hex8_tet}
 
 -- 'unfolding tested' opens every definition on the way to these tests
@@ -29,8 +31,12 @@ tested = tt
 abbrev pub outside : ℕ → List (List ℕ) → Bool
 outside n rows = any_of (index_refused n) rows
 
--- ---- what the code asks of a table of faces
--- a cell with these corners and ends, and with as many coordinates that are
+-- ---- what the code asks of a table
+-- of rows: every number is that of a corner
+pub rows_inside : (n : ℕ) (ps : List Point) (rows : List (List ℕ)) → length ps ≡ n → outside n rows ≡ false → Each [] (Inside ps) rows
+rows_inside n ps rows e q = record { holds = λ k h. all_below (length ps) _ (any_none (index_refused (length ps)) [] rows (rw e q) k h) }
+
+-- of faces, as corners and ends: a cell with these, and with as many coordinates that are
 -- all 0, is not refused; which numbers they are does not matter
 pub shape_sound : (n : ℕ) (coords : List Float) (corners ends : List ℕ) → length coords ≡ n
     → refusal_of (replicate n zero64) corners ends [] [] ≡ no_refusal → Sound coords corners ends

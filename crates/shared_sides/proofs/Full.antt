@@ -3,7 +3,7 @@ use mathlib.Core.Path.{◌≡◌, refl, sym, ◌∙◌, ap}
 use mathlib.Core.Logic.{◌≢◌}
 use mathlib.Core.Bool.{Bool, true, false, not, cond}
 use mathlib.Core.List.{List, [], ◌∷◌, ◌++◌}
-use Prim.Native.Nat.{ℕ, ◌<◌, ◌≤◌}
+use Prim.Native.Nat.{ℕ, ◌*◌, ◌<◌, ◌≤◌}
 use native.Mathlib.Decide.{ℕ_discrete, dec_lt}
 use native.Mathlib.Omega.{arith}
 use lib.Dec.{eqb}
@@ -17,9 +17,10 @@ use Rattle.places.proofs.Lists.{each_head, each_tail}
 use Rattle.exact.specs.Sides.{all_sides}
 use Rattle.exact.specs.Facing.{occurs, strange, doubled, unfit}
 use Rattle.exact.proofs.Conditions.{strange_is}
+use Rattle.side_table.specs.Numbers.{Known, Numbering}
 use Rattle.side_table.proofs.Pairs.{Both, all_both}
 use Rattle.cell.specs.Faces.{faces_of}
-use Rattle.shared_sides.specs.Steps.{marks_from, held, held_at, Sane, Left, second_at, lonely, lonely_face, lonely_faces, Pair}
+use Rattle.shared_sides.specs.Steps.{marks_from, held, held_at, Sane, Left, Ready, second_at, lonely, lonely_face, lonely_faces, Pair}
 use Rattle.shared_sides.specs.Steps.{Mates}
 use Rattle.shared_sides.proofs.Marks.{marks_length, two_marks}
 
@@ -27,6 +28,9 @@ use Rattle.shared_sides.proofs.Marks.{marks_length, two_marks}
 pub blank_held : (at : ℕ → ℕ → ℕ) (t : List ℕ) (i j : ℕ) → Blank t → held_at at t i j ≡ []
 unfolding held_at
 blank_held at t i j z = let e : get_or t (at i j) 0 ≡ 0 = omega (arith, z.zero (at i j)) in rw e
+
+pub blank_sane : {In : ℕ → Type 0} {at : ℕ → ℕ → ℕ} {t : List ℕ} → Blank t → Sane In at t
+blank_sane {In} {at} {t} z = record { first = λ i j o hi hj e. omega (arith, z.zero (at j i)) }
 
 -- ---- two marks or fewer
 held_two : (x y : ℕ) → (x ≡ 0 → y ≡ 0) → eqb y 0 ≡ not (eqb (length (held x y)) 2)
@@ -150,6 +154,13 @@ pub unfit_else : (fs : List (List ℕ)) {d : Bool} → any_of (strange fs) (all_
     → not d ≡ not (unfit fs)
 unfolding unfit
 unfit_else fs e q = rw (e, q)
+
+-- ---- what the functions are given
+pub ready_blank : {number : List ℕ} {k : ℕ} {t : List ℕ} → Numbering number k → k * k ≤ length t → Blank t → Ready number k t
+ready_blank g w z = record { numbering = g; wide = w; sane = blank_sane z }
+
+pub known_below : {number : List ℕ} {k : ℕ} {c : List ℕ} → Numbering number k → Each 0 (Known number k) c → Each 0 (λ x. x < 256) c
+known_below g t = record { holds = λ i h. omega (arith, (t.holds i h).within, g.size) }
 
 -- a test of the full table for sides with no second mark is one of the faces for sides that do not occur twice
 pub told_strange : {In : ℕ → Type 0} {at : ℕ → ℕ → ℕ} {t : List ℕ} {r : Bool} (c es : List ℕ) → Filled In at t (faces_of c es) → Each 0 In c

@@ -14,10 +14,13 @@ use borrow.Author.Tests.{eq-eqb, ne_eqb}
 use Rattle.places.specs.Ring.{sides, next_of}
 use Rattle.places.proofs.Loops.{drop_more}
 use Rattle.places.proofs.Rings.{length_sides, side_at}
+use Rattle.exact.specs.Sides.{from_to}
+use Rattle.exact.proofs.Balance.{and_comm}
 use Rattle.cell.specs.Faces.{faces_from}
 use Rattle.cell.proofs.Faces.{faces_more, faces_none}
+use Rattle.side_table.specs.Numbers.{Known, entry_of}
 use Rattle.side_table.proofs.Pairs.{Tells}
-use Rattle.shared_sides.specs.Steps.{mark_at, marks_in, marks_from, held, held_at, Sane, Left}
+use Rattle.shared_sides.specs.Steps.{mark_of, mark_at, marks_in, marks_from, held, held_at, Sane, Left, Ready}
 
 -- ---- the marks that two entries hold, and one more
 held_first : (x y m : ℕ) → x ≡ 0 → y ≡ 0 → 0 < m → held m y ≡ held x y ++ m ∷ []
@@ -140,6 +143,50 @@ module _ {In : ℕ → Type 0} {at : ℕ → ℕ → ℕ} {n : ℕ} (tells : Tel
       };
     }
 
+-- ---- what is put at one side of a face
+module _ {In : ℕ → Type 0} {at : ℕ → ℕ → ℕ} {t t' : List ℕ} where
+  pub left_same : {r : Bool} {more more' : ℕ → ℕ → List ℕ} → Left In at t more t' r → ((i j : ℕ) → i < j → more i j ≡ more' i j)
+      → Left In at t more' t' r
+  left_same l e = record {
+    sane = l.sane;
+    stand = λ q i j o hi hj. l.stand q i j o hi hj ∙ ap (λ w. held_at at t i j ++ w) (e i j o);
+    full = λ q. let c = l.full q in record {
+      i = c.i;
+      j = c.j;
+      order = c.order;
+      here = c.here;
+      there = c.there;
+      three = rw (e c.i c.j c.order) at c.three;
+    };
+  }
+
+-- one that runs up, or down, or from a vertex to itself
+miss : (i j a b : ℕ) → (a ≡ i → b ≡ j → ⊥) → from_to i j (a, b) ≡ false
+miss i j a b n = go (ℕ_discrete a i) (ℕ_discrete b j)
+  where
+    go : Dec (a ≡ i) → Dec (b ≡ j) → from_to i j (a, b) ≡ false
+    go (yes p) (yes q) = absurd (n p q)
+    go (yes p) (no q) = rw (eq-eqb a i p, ne_eqb b j q)
+    go (no p) d = rw (ne_eqb a i p)
+
+pub side_up : (i j f a b : ℕ) → i < j → a < b → cond (eqb a i && eqb b j) (mark_of f false ∷ []) [] ≡ mark_at i j f (a, b)
+side_up i j f a b o h = rw (miss j i a b (λ p q. absurd (omega arith)))
+
+pub side_down : (i j f a b : ℕ) → i < j → b < a → cond (eqb b i && eqb a j) (mark_of f true ∷ []) [] ≡ mark_at i j f (a, b)
+side_down i j f a b o h = rw (miss i j a b (λ p q. absurd (omega arith)), and_comm (eqb b i) (eqb a j))
+
+pub side_none : (i j f a b : ℕ) → i < j → a ≡ b → mark_at i j f (a, b) ≡ []
+side_none i j f a b o h = rw (miss i j a b (λ p q. absurd (omega arith)), miss j i a b (λ p q. absurd (omega arith)))
+
+-- nothing is put
+pub left_none : {In : ℕ → Type 0} {at : ℕ → ℕ → ℕ} {t : List ℕ} {more : ℕ → ℕ → List ℕ}
+    → Sane In at t → ((i j : ℕ) → i < j → more i j ≡ []) → Left In at t more t true
+left_none {In} {at} {t} s e = record {
+  sane = λ _. s;
+  stand = λ _ i j o hi hj. rw (e i j o, append-nil);
+  full = λ z. absurd (true≢false z);
+}
+
 -- ---- a loop that puts marks: what stands in the table, with what is left to put, is what stood there and all that is put
 pub record Putting (In : ℕ → Type 0) (at : ℕ → ℕ → ℕ) (t₀ : List ℕ) (all rest : ℕ → ℕ → List ℕ) (t : List ℕ) : Type 0 where
   pub sane : Sane In at t
@@ -212,3 +259,8 @@ from_more p c es k h q u = record { is = λ i j. rw (u, q, faces_more p c es k h
 
 pub from_none : (p : ℕ) (c es : List ℕ) (k : ℕ) → length es ≤ k → (i j : ℕ) → marks_from i j k (faces_from p c (drop k es)) ≡ []
 from_none p c es k h i j = rw (faces_none p c es k h)
+
+-- ---- the table is ready for more
+pub ready_again : {number : List ℕ} {k : ℕ} {t t' : List ℕ} → Ready number k t → length t' ≡ length t
+    → Sane (Known number k) (entry_of number k) t' → Ready number k t'
+ready_again r e s = record { numbering = r.numbering; wide = omega (arith, r.wide); sane = s }

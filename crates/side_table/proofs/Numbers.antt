@@ -4,7 +4,7 @@ use mathlib.Core.Path.{◌≡◌, refl, sym, ◌∙◌, ap}
 use mathlib.Core.Logic.{◌≢◌}
 use mathlib.Core.List.{List, [], ◌∷◌}
 use Prim.Native.Nat.{ℕ, zero, suc, ◌+◌, ◌*◌, ◌<◌, ◌≤◌}
-use native.Mathlib.Nat.{mul-le-mul_right}
+use native.Mathlib.Nat.{mul-le-mul, mul-le-mul_right}
 use native.Mathlib.Decide.{ℕ_discrete, dec_lt}
 use native.Mathlib.Omega.{arith}
 use lib.ListN.{length, get_or, set, length-set, replicate, length-replicate, get_or-replicate}
@@ -154,6 +154,11 @@ row k a b x y hb hy e = go (dec_lt a x) (dec_lt x a)
 pub entry_below : {number : List ℕ} {k a b : ℕ} → Known number k a → Known number k b → entry_of number k a b < k * k
 unfolding entry_of
 entry_below {number} {k} {a} {b} ha hb = omega (arith, mul-le-mul_right k ha.told, hb.told)
+
+-- what the code computes on the way to an entry is small
+pub entry_fits : {number : List ℕ} {k a b : ℕ} → Known number k a → Known number k b → k ≤ 256
+    → get_or number a 0 * k + get_or number b 0 ≤ 65536
+entry_fits {number} {k} {a} {b} ha hb h = omega (arith, mul-le-mul_right k ha.told, hb.told, mul-le-mul h h)
 
 -- each pair of vertices that have a number has an entry of its own
 pub entries : {number : List ℕ} {k : ℕ} → Numbering number k → Tells (Known number k) (entry_of number k) (k * k)

@@ -17,4 +17,4 @@ invariant_of-chains g c =
 pub returns : goal.returns
 returns g c =
     even_closed _ _ c.requires.each.0 c.requires.each.1 c.is_even.result
-    (c.is_even.ensures _ (c.link_faces.ensures _ (lists_start g.row.N)))
+    (c.is_even.ensures _ (c.link_faces.ensures _ lists_start))

@@ -1,7 +1,7 @@
 -- What the refusals of turning say: a cell's own numbers end at 4, so 11, 12 and none are told by the rows of turning, and these by tests.
 use mathlib.Core.Path.{◌≡◌, refl, sym, ap}
 use mathlib.Core.Logic.Iff
-use mathlib.Core.Logic.{◌↔◌, ◌≢◌}
+use mathlib.Core.Logic.{◌↔◌, ◌≢◌, ⊎_elim}
 use mathlib.Core.Bool.{Bool, true, false, ◌||◌, false≢true, cond}
 use mathlib.Core.List.{List, [], ◌∷◌}
 use Prim.Native.Nat.{ℕ, ◌<◌, ◌≤◌}
@@ -10,6 +10,7 @@ use borrow.Author.Tests.{not-false}
 use lib.ListN.{length}
 use lib.Ieee.{Float}
 use Rattle.std.specs.Prelude.{Ok, Err}
+use Rattle.std.proofs.lemmas.Bool.{cases_lt}
 use Rattle.places.specs.Refusals.{Check, no_refusal, number_of}
 use Rattle.places.specs.declared.refusal.Refusal.{Refusal}
 use Rattle.places.specs.declared.refusal.Refusal.TheVariants.{Size, Number, Ends, Index, Sides, Choice}
@@ -101,6 +102,9 @@ module _ (coords : List Float) (corners ends : List ℕ) where
       four_rows w high
       (size_refused coords corners ends) (number_refused coords || number_refused []) (ends_refused corners ends)
       (index_refused (length (vertices_of coords)) corners || index_refused (length ends) [])
+
+  pub cell_low : (why : Refusal) → cell_refusal coords corners ends ≡ Err why → number_of why ≤ 4
+  cell_low why e = ⊎_elim (λ high. absurd (cell_not why high e)) (λ low. low) (cases_lt 4 (number_of why))
 
   abbrev fs : List (List ℕ)
   fs = faces_of corners ends

@@ -1,5 +1,6 @@
 -- The two ways in which an entry answers: refused for the reason that was found, or with the value; that a promise leaves one outcome; and
 -- that `local_origin` answers what `to_local` does.
+use mathlib.Core.Bool.{Bool, true, false, cond}
 use mathlib.Core.Path.{◌≡◌, refl, sym, ◌∙◌}
 use mathlib.Core.List.{List}
 use lib.Ieee.{Float}
@@ -16,6 +17,10 @@ pub one_answer : OneAnswer
 one_answer A answer one other p q = p ∙ sym q
 
 -- ---- the answer of an entry that also writes into a list, without the list
+pub first_answered : {A B : Type 0} (b : Bool) (x : A × B) (y : A) (z : B) → (cond b x (y, z)).0 ≡ cond b x.0 y
+first_answered true x y z = refl
+first_answered false x y z = refl
+
 pub first_beside : {A L : Type 0} (check : Check) (value : A) (after before : L)
     → (beside check (Ok value, after) before).0 ≡ answered check value
 first_beside (Ok _) value after before = refl

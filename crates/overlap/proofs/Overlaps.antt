@@ -6,8 +6,8 @@ use mathlib.Core.List.{List, [], ◌∷◌, ◌++◌, append-nil}
 use Prim.Native.Nat.{ℕ, zero, suc, ◌+◌, ◌-◌, ◌≤◌}
 use native.Mathlib.Nat.{add-zero, sub-zero}
 use native.Mathlib.Omega.{arith}
-use lib.ListN.{length, take, replicate, length-take, length-drop, length-append, length-replicate}
-use lib.Seq.{take_at, drop_at}
+use lib.ListN.{length, take, drop, replicate, length-take, length-drop, length-append, length-replicate}
+use lib.Seq.{take_all, take_at, drop_at}
 use borrow.Rule.Slice.PartMut.{put_mid}
 use lib.Ieee.{Float}
 use Rattle.std.specs.Prelude.{Result, Ok, Err}
@@ -28,6 +28,10 @@ use Rattle.overlap.specs.Steps.{Joint, Stocked, room_of, other_part}
 use Rattle.overlap.specs.Overlap.{first_patches, second_patches, added_to, magnitude_of_sum, overlap_of}
 use Rattle.overlap.proofs.Patches.{same_room}
 use Rattle.overlap.proofs.Sums.{added_append}
+
+-- ---- the stretch from a place to the end of a list is what it is without the place before
+pub to_the_end : (from : ℕ) (l : List Float) → take (length l - from) (drop from l) ≡ drop from l
+to_the_end from l = take_all (length l - from) (drop from l) (rw length-drop (omega arith))
 
 -- ---- the list of both cells' planes, cut into those of each
 module _ {n k : ℕ} {firsts seconds : List Plane} {both : List Float} (j : Joint n k firsts seconds both) where

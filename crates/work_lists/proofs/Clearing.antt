@@ -1,6 +1,7 @@
 -- From an outline that stands at the front of a work list to lists that show it, +0 in every other number;
 -- for points of any number of coordinates.
 use mathlib.Core.Path.{◌≡◌, refl, sym, ap, ◌∙◌}
+use mathlib.Core.Logic.{◌⊎◌, inl, inr}
 use mathlib.Core.Bool.{Bool, true, false, beq, cond}
 use mathlib.Core.List.{List, [], ◌∷◌, ◌++◌}
 use Prim.Native.Nat.{ℕ, ◌-◌, ◌*◌, ◌≤◌}
@@ -28,6 +29,16 @@ of_first false m = refl
 pub of_second : (s : Bool) (m : ℕ) → cond (beq s true) m 0 ≡ cond s m 0
 of_second true m = refl
 of_second false m = refl
+
+pub shows_in : (s : Bool) (m : ℕ) (a b : List Float) → (cond (beq s false) m 0 ≤ length a) × (cond (beq s true) m 0 ≤ length b)
+    → m ≤ length (cond s b a)
+shows_in true m a b h = h.1
+shows_in false m a b h = h.0
+
+pub shows_least : (s : Bool) (m : ℕ) (a b : List Float) → (cond (beq s false) m 0 ≤ length a) × (cond (beq s true) m 0 ≤ length b)
+    → (m ≤ length a) ⊎ (m ≤ length b)
+shows_least true m a b h = inr h.1
+shows_least false m a b h = inl h.0
 
 -- ---- the points that an outcome shows in the list `which`
 abbrev shown_in : Outcome → Bool → List Point

@@ -14,4 +14,5 @@ loop-k-preserved g c = rw c.vertex.ensures (copy_step [] c.loop-k.invariant (ome
 
 pub returns : goal.returns
 returns g c =
-    copy_all c.loop-k.invariant (omega (arith, length_threes c.args.p.now)) (rw length-replicate (omega (arith, length_threes c.args.p.now)))
+    copy_all c.loop-k.invariant (omega (arith, length_threes c.args.p.now))
+    (rw length-replicate (omega (arith, length_threes c.args.p.now)))

@@ -9,10 +9,9 @@ use native.Mathlib.Decide.{ℕ_discrete}
 use native.Mathlib.Numerals.{add-one}
 use native.Mathlib.Omega.{arith}
 use lib.Dec.{eqb}
-use lib.ListN.{length, get_or, set, take}
+use lib.ListN.{length, get_or, set}
 use lib.Seq.{get_or-set_same, get_or-set_other}
 use borrow.Author.Tests.{eq-eqb, ne_eqb}
-use Rattle.std.proofs.lemmas.List.{get_or-take, length-take}
 use Rattle.places.specs.Steps.{Blank}
 use Rattle.places.proofs.Stamps.{set_holds}
 use Rattle.cut_check.specs.Steps.{corners_at, Chain, Lists, Linked}
@@ -73,15 +72,6 @@ linked_more {head} {next} {c} {s} a k h e g = record {
 pub lists_more : {head next c : List ℕ} {s : ℕ} (a : ℕ) → ((p : ℕ) → get_or next p 0 ≤ p) → Lists head next c s → s < length next
     → a ≡ get_or c s 0 → a < length head → Lists (set head a (s + 1)) (set next s (get_or head a 0)) c (s + 1)
 lists_more a back t h e g = (linked_more a (record { back = back; lists = t }) h e g).lists
-
--- a link that was read among those of the first n places
-pub record Among (head : List ℕ) (n a : ℕ) : Type 0 where
-  pub below : a < n
-  pub read : get_or (take n head) a 0 ≡ get_or head a 0
-
-pub among : (head : List ℕ) (n a : ℕ) → a < length (take n head) → Among head n a
-among head n a h =
-    let below : a < n = omega (arith, length-take n head) in record { below = below; read = get_or-take n head a 0 below }
 
 -- ---- along a chain
 -- from h on a list of corners is left, of which P holds

@@ -1,17 +1,14 @@
 -- `cut_check::Chains::paired` meets its contract: after a turns the places before a are paired and every stamp is below a + 1, so that the
 -- one of the place a is new; and the first place that is not paired is the answer no.
 use native.Mathlib.Omega.{arith}
-use Rattle.cut_check.proofs.Linked.{among}
 use Rattle.cut_check.proofs.Pairing.{below_more}
 use Rattle.cut_check.proofs.Chains.paired.Goals as goal
 
 pub paired_at-requires : goal.paired_at-requires
-paired_at-requires c =
-    let here = among c.args.self.now.head.now c.args.self.now.n c.loop-a.a c.loop-a-test.true in
-    record {
-      chain = rw (here.read) (c.requires.lists.chain c.loop-a.a);
-      stamp_len = (here.below, omega arith, c.loop-a.invariant.fresh);
-    }
+paired_at-requires c = record {
+  chain = rw (c.read.ensures) (c.requires.lists.chain c.loop-a.a);
+  stamp_len = (omega arith, omega arith, c.loop-a.invariant.fresh);
+}
 
 pub loop-a-preserved : goal.loop-a-preserved
 loop-a-preserved c =

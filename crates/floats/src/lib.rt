@@ -10,15 +10,12 @@ ghost use Rattle.std.specs.Float.Ieee.{mul, is_nan, of_bits, to_bits};
 ghost use Rattle.floats.specs.Pick.{magnitude_of, least_of, largest_of};
 ghost use Rattle.floats.specs.Root.{root_of};
 
-// x with its sign cleared; a NaN stays the NaN that it is, bit by bit, as C sees it.
+// x with its sign cleared; a NaN stays a NaN.
 // Rules out: a magnitude that leaves -0 as it is; one that leaves every number as it is.
-#[tactic(auto, using(crate::proofs::Signs::sign_cleared, crate::proofs::Signs::of_nan, crate::proofs::Nans::is_nan_lem))]
+#[tactic(auto, using(crate::proofs::Signs::sign_cleared))]
 pub fn magnitude(x: f64) -> f64
     ensures { result ≡ magnitude_of x }
 {
-    if x.is_nan() {
-        return x;
-    }
     x.abs()
 }
 

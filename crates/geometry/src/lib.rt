@@ -1,6 +1,6 @@
 // The gatehouse: every public entry takes any input, refuses by the numbers of SCOPE 3, in their order, and then calls a room.
 // The entries on a cell and the check of triangles over a face's places stand here, with every type of a public signature (the refusal,
-// which the checks below answer too, is named on from `places`); those on lists of points in `in_space` and `in_plane`, clipping in
+// which the checks below answer too, is exported again from `places`); those on lists of points in `in_space` and `in_plane`, clipping in
 // `clipping`, the fixed shapes in `fixed`, the leaves in `leaves`. A cell's three lists stay three arguments, as every C name has them;
 // past the check they go on as one sound cell.
 #![tactic(auto)]

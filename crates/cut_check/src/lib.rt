@@ -137,7 +137,7 @@ impl Chains<'_> {
         requires stamp_len { (length stamp.old ≡ self.now.n) × Blank stamp.old }
         ensures { (result ≡ true) ↔ Paired self.now.n (in_threes self.now.corners.now) }
     {
-        // By `read`: from the elements of `head`, or an index, the compiler makes walks that take up to a tenth longer.
+        // The first link is read by `places::read`: from the elements of `head`, or by an index here, the compiler makes slower walks.
         for a in 0..self.n {
             if !self.paired_at(stamp, places::read(self.head, a), a) {
                 return false;
@@ -169,7 +169,7 @@ fn link(head: &mut [u16], next: &mut [u16], corners: &[u32], n: usize)
 }
 
 // Whether each side occurs once each way, by way of lists of zeros: a place for each corner of the face, twice, and one for each corner of
-// a triangle. Apart from `paired_within`, so that the walks stand in the machine code once and not for each size, which took longer.
+// a triangle. It stands apart from `paired_within`, so that the walks are in the machine code once: once for each size they took longer.
 fn paired_in(
     head: &mut [u16],
     stamp: &mut [u16],
